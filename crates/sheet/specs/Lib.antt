@@ -1,0 +1,5 @@
+pub mod Types
+pub mod Texts
+pub mod Contents
+pub mod Forests
+pub mod Schemas
