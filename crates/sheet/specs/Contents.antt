@@ -3,8 +3,8 @@ use mathlib.Core.List.{List}
 use Prim.Native.Nat.{ℕ}
 use Rattle.roll.specs.Rolls.{items}
 use Rattle.sheet.specs.declared.memory.Sheet.{Sheet}
-use Rattle.sheet.specs.declared.types.FieldRecord.{FieldRecord}
-use Rattle.sheet.specs.declared.types.Pair.{Pair}
+use Rattle.types.specs.declared.FieldRecord.{FieldRecord}
+use Rattle.types.specs.declared.Pair.{Pair}
 
 -- Field records in preorder, pairs in their owners' order, text bytes, and how many of the pairs are the schema's own.
 pub record Content : Type 0 where

@@ -1,4 +1,3 @@
-pub mod Types
 pub mod Texts
 pub mod Contents
 pub mod Forests

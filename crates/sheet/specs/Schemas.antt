@@ -8,14 +8,14 @@ use lib.ListN.{take, drop}
 use Rattle.std.specs.Options.{mapped}
 use Rattle.std.specs.Vec.{listOf}
 use Rattle.std.specs.declared.option.Option.{Option}
-use Rattle.sheet.specs.declared.types.Pair.{Pair}
-use Rattle.sheet.specs.declared.types.Dictionary.{Dictionary}
-use Rattle.sheet.specs.declared.types.IndexType.{IndexType}
-use Rattle.sheet.specs.declared.types.FieldRecord.{FieldRecord}
+use Rattle.types.specs.declared.Pair.{Pair}
+use Rattle.types.specs.declared.Dictionary.{Dictionary}
+use Rattle.types.specs.declared.IndexType.{IndexType}
+use Rattle.types.specs.declared.FieldRecord.{FieldRecord}
 use Rattle.sheet.specs.Contents.{Content}
 use Rattle.sheet.specs.Forests.{Forest, none, tree, counted, mapped-forest}
 use Rattle.sheet.specs.Texts.{said}
-use Rattle.sheet.specs.Types.{TypeValue, type-value}
+use Rattle.types.specs.Types.{TypeValue, type-value}
 
 -- A key and its value, as bytes.
 pub record PairValue : Type 0 where

@@ -6,7 +6,7 @@ use lib.ListN.{length, take, drop}
 use Rattle.std.specs.shelf.Maps.{nth}
 use Rattle.std.specs.declared.option.Option.{Option}
 use Rattle.std.specs.declared.option.Option.the-variants.{Some, None}
-use Rattle.sheet.specs.declared.types.Text.{Text}
+use Rattle.types.specs.declared.Text.{Text}
 
 -- The bytes of a text.
 abbrev pub said : List ℕ → Text → List ℕ

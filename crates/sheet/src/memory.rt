@@ -9,9 +9,9 @@ ghost use Rattle.roll.specs.Rolls.{items, free};
 ghost use Rattle.sheet.specs.Contents.{Content, content};
 ghost use Rattle.sheet.specs.Texts.{said, Within};
 
-use crate::types::FieldRecord;
-use crate::types::Pair;
-use crate::types::Text;
+use types::FieldRecord;
+use types::Pair;
+use types::Text;
 use roll::Full;
 use roll::Roll;
 

@@ -3,12 +3,12 @@ ghost use mathlib.Core.Path.{_≡_};
 ghost use Prim.Native.Nat.{ℕ, _+_, _<_, _≤_};
 ghost use lib.ListN.{length, take, drop};
 ghost use Rattle.std.specs.Orderings.{Decides};
-ghost use Rattle.sheet.specs.declared.types.Text.{Text};
-ghost use Rattle.sheet.specs.Texts.{Spells, First};
+ghost use Rattle.types.specs.declared.Text.{Text};
+ghost use Rattle.sheet.specs.Texts.{said, Spells, First};
 
-use crate::types::FieldRecord;
-use crate::types::Pair;
-use crate::types::Text;
+use types::FieldRecord;
+use types::Pair;
+use types::Text;
 
 /// An element that is found by a text of its own.
 pub trait HasText {
@@ -34,6 +34,15 @@ pub impl HasText for Pair as PairHasText {
     fn text(&self) -> Text {
         self.key
     }
+}
+
+/// The bytes of a text, as far as they lie within the text bytes.
+pub fn text_bytes(bytes: &[u8], t: Text) -> &[u8]
+    ensures { λ r. ⌜ now r ≡ said (now (bytes .entry)) t ⌝ }
+{
+    let start = (t.start as usize).min(bytes.len());
+    let end = (start + t.len as usize).min(bytes.len());
+    &bytes[start..end]
 }
 
 /// Whether a text says just these bytes; one that leaves the text bytes never does.

@@ -6,12 +6,12 @@ use lib.IntN.{ℤ}
 use Rattle.std.specs.declared.option.Option.{Option}
 use Rattle.std.specs.declared.option.Option.the-variants.{Some, None}
 use Rattle.std.specs.Options.{mapped}
-use Rattle.sheet.specs.declared.types.Text.{Text}
-use Rattle.sheet.specs.declared.types.TimeUnit.{TimeUnit}
-use Rattle.sheet.specs.declared.types.IntervalUnit.{IntervalUnit}
-use Rattle.sheet.specs.declared.types.UnionMode.{UnionMode}
-use Rattle.sheet.specs.declared.types.DataType.{DataType}
-use Rattle.sheet.specs.declared.types.DataType.the-variants.{Null, Boolean, Int8, Int16, Int32, Int64, UInt8, UInt16, UInt32, UInt64, Float16, Float32, Float64, Binary, LargeBinary, BinaryView, Utf8, LargeUtf8, Utf8View, FixedSizeBinary, Date32, Date64, Time32, Time64, Timestamp, Interval, Duration, List as ListType, LargeList, ListView, LargeListView, FixedSizeList, Struct, RunEndEncoded, Map, Decimal32, Decimal64, Decimal128, Decimal256, Union}
+use Rattle.types.specs.declared.Text.{Text}
+use Rattle.types.specs.declared.TimeUnit.{TimeUnit}
+use Rattle.types.specs.declared.IntervalUnit.{IntervalUnit}
+use Rattle.types.specs.declared.UnionMode.{UnionMode}
+use Rattle.types.specs.declared.DataType.{DataType}
+use Rattle.types.specs.declared.DataType.the-variants.{Null, Boolean, Int8, Int16, Int32, Int64, UInt8, UInt16, UInt32, UInt64, Float16, Float32, Float64, Binary, LargeBinary, BinaryView, Utf8, LargeUtf8, Utf8View, FixedSizeBinary, Date32, Date64, Time32, Time64, Timestamp, Interval, Duration, List as ListType, LargeList, ListView, LargeListView, FixedSizeList, Struct, RunEndEncoded, Map, Decimal32, Decimal64, Decimal128, Decimal256, Union}
 
 pub data TypeValue : Type 0 where
   null : TypeValue

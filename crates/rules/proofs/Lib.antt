@@ -1,0 +1,5 @@
+mod RowSteps
+pub mod Utf8
+mod TextSteps
+mod KeySteps
+mod SumSteps
