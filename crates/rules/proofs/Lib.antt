@@ -3,3 +3,6 @@ pub mod Utf8
 mod TextSteps
 mod KeySteps
 mod SumSteps
+mod RecordSteps
+mod WalkSteps
+mod VerdictSteps

@@ -40,25 +40,36 @@ limit-rules c =
     ∷ (leb (c .own) (length (c .pairs)), Counts)
     ∷ []
 
+-- The counts of a field fit its type and the pairs that are left.
+abbrev pub counts-fit : Site → Bool
+counts-fit s = count-fits (child-rule (s .head .«data_type»)) (s .head .children) && leb (s .head .pairs) (length (s .left))
+
+-- The type id fits the row, the unit the type, and the zone is not empty.
+abbrev pub parameters-fit : Site → Bool
+parameters-fit s =
+    (id-fits (s .row) (s .head .«type_id») && unit-fits (s .head .«data_type»)) && zone-fits (zone-of (s .head .«data_type»))
+
+-- What is looked at of the texts of a record with these pairs.
+abbrev pub text-rules : List ℕ → FieldRecord → List Pair → Rules
+text-rules bytes x ps =
+    (texts-fit bytes x ps, BadText)
+    ∷ (all-differ (keys bytes ps), RepeatedKey)
+    ∷ []
+
 -- What is looked at on coming to a field.
 abbrev pub field-rules : List ℕ → Site → Rules
 field-rules bytes s =
-    (count-fits (child-rule (s .head .«data_type»)) (s .head .children), Counts)
-    ∷ (leb (s .head .pairs) (length (s .left)), Counts)
+    (counts-fit s, Counts)
     ∷ (leb (s .depth) max-depth, TooDeep)
-    ∷ (id-fits (s .row) (s .head .«type_id»), Parameter)
-    ∷ (unit-fits (s .head .«data_type»), Parameter)
-    ∷ (zone-fits (zone-of (s .head .«data_type»)), Parameter)
-    ∷ (texts-fit bytes (s .head) (own-pairs s), BadText)
-    ∷ (all-differ (keys bytes (own-pairs s)), RepeatedKey)
-    ∷ []
+    ∷ (parameters-fit s, Parameter)
+    ∷ text-rules bytes (s .head) (own-pairs s)
 
--- What is looked at after the last record, where these pairs are left over.
-abbrev pub closing-rules : Content → List Pair → Rules
-closing-rules c left =
-    (every (pair-fits (c .bytes)) (take (c .own) (c .pairs)), BadText)
-    ∷ (all-differ (keys (c .bytes) (take (c .own) (c .pairs))), RepeatedKey)
-    ∷ (eqb (length left) 0, Counts)
+-- What is looked at after the last record, with the schema's own pairs and the count of pairs that are left over.
+abbrev pub own-rules : List ℕ → List Pair → ℕ → Rules
+own-rules bytes ps left =
+    (every (pair-fits bytes) ps, BadText)
+    ∷ (all-differ (keys bytes ps), RepeatedKey)
+    ∷ (eqb left 0, Counts)
     ∷ []
 
 -- What a walk has not come to yet.
@@ -121,4 +132,4 @@ or-else (Some e) o = Some e
 
 -- The refusal that the check gives, or none.
 abbrev pub verdict : Content → Option SheetRefusal
-verdict c = or-else (first-broken (limit-rules c)) (closed (walk-fields c) (λ left. first-broken (closing-rules c left)))
+verdict c = or-else (first-broken (limit-rules c)) (closed (walk-fields c) (λ left. first-broken (own-rules (c .bytes) (take (c .own) (c .pairs)) (length left))))

@@ -1,4 +1,5 @@
 //! The rules of a lawful sheet, and the check that tells which one is broken first.
+mod check;
 mod limits;
 pub mod refusal;
 mod siblings;

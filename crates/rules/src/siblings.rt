@@ -5,7 +5,7 @@ ghost use mathlib.Core.List.{List, [], _∷_, _++_};
 ghost use Prim.Native.Nat.{ℕ, _+_, _<_, _≤_};
 ghost use lib.Dec.{eqb, leb};
 ghost use lib.ListN.{length, take, drop};
-ghost use Rattle.rules.specs.Models.{row-of, ids-of};
+ghost use Rattle.rules.specs.Models.{row-of, ids-of, Has-room};
 ghost use Rattle.rules.specs.Sites.{Row, plain, in-union, row-under, after};
 ghost use Rattle.rules.specs.Tests.{among, id-fits};
 
@@ -44,8 +44,7 @@ impl Siblings {
 
     /// The row of the children under a field, before the first of them.
     pub fn under(rule: ChildRule) -> Siblings
-        ensures row { λ r. ⌜ row-of r ≡ row-under rule ⌝ }
-        ensures ids { λ r. ⌜ length (ids-of r) ≡ 0 ⌝ }
+        ensures { λ r. ⌜ row-of r ≡ row-under rule ⌝ }
     {
         let in_union = match rule {
             ChildRule::OfUnion => true,
@@ -74,9 +73,8 @@ impl Siblings {
 
     /// One field more in the row.
     pub fn note(&mut self, id: u8)
-        requires { ⌜ length (ids-of (now self)) < 128 ⌝ }
-        ensures row { λ _. ⌜ row-of (now (self .exit)) ≡ after (row-of (now (self .entry))) id ⌝ }
-        ensures ids { λ _. ⌜ length (ids-of (now (self .exit))) ≤ length (ids-of (now (self .entry))) + 1 ⌝ }
+        requires { ⌜ Has-room (row-of (now self)) 1 ⌝ }
+        ensures { λ _. ⌜ row-of (now (self .exit)) ≡ after (row-of (now (self .entry))) id ⌝ }
     {
         let n = self.len;
         if self.in_union && n < 128 {
