@@ -6,3 +6,7 @@ mod SumSteps
 mod RecordSteps
 mod WalkSteps
 mod VerdictSteps
+mod Decided
+mod Grown
+mod Judged
+pub mod Holding

@@ -12,7 +12,7 @@ use Rattle.std.proofs.shelf.Lists.{drop-drop}
 use Rattle.types.specs.declared.FieldRecord.{FieldRecord}
 use Rattle.types.specs.declared.Pair.{Pair}
 use Rattle.sheet.specs.Contents.{Content}
-use Rattle.rules.specs.declared.check.Place.{Place}
+use Rattle.rules.specs.declared.walk.Place.{Place}
 use Rattle.rules.specs.declared.refusal.SheetRefusal.{SheetRefusal}
 use Rattle.rules.specs.declared.refusal.SheetRefusal.the-variants.{Counts, TooDeep}
 use Rattle.rules.specs.Tables.{child-rule}

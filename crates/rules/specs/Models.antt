@@ -10,7 +10,7 @@ use Rattle.std.specs.declared.result.Result.the-variants.{Ok, Err}
 use Rattle.sheet.specs.Contents.{Content}
 use Rattle.rules.specs.declared.refusal.SheetRefusal.{SheetRefusal}
 use Rattle.rules.specs.declared.siblings.Siblings.{Siblings}
-use Rattle.rules.specs.declared.check.Place.{Place}
+use Rattle.rules.specs.declared.walk.Place.{Place}
 use Rattle.rules.specs.Sites.{Row, plain, in-union}
 use Rattle.rules.specs.Tests.{max-records, max-pairs}
 use Rattle.rules.specs.Verdict.{Ahead, Walked}

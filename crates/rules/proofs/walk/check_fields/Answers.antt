@@ -10,7 +10,7 @@ use Rattle.rules.specs.Sites.{plain}
 use Rattle.rules.specs.Models.{row-of, ahead, walked}
 use Rattle.rules.specs.Verdict.{then, walk-field, walk-row}
 use Rattle.rules.proofs.WalkSteps.{within, row-ended, row-all-on, row-one-on}
-use Rattle.rules.proofs.check.check_fields.Needs as need
+use Rattle.rules.proofs.walk.check_fields.Needs as need
 
 pub loop-k-holds : need.loop-k-holds
 loop-k-holds c =

@@ -4,7 +4,7 @@ use lib.ListN.{length}
 use Rattle.sheet.specs.Contents.{content}
 use Rattle.rules.specs.Models.{row-of, ahead, Has-room}
 use Rattle.rules.specs.Verdict.{walk-children, walk-field}
-use Rattle.rules.proofs.check.+check_field+check_type.Given as given
+use Rattle.rules.proofs.walk.+check_field+check_type.Given as given
 
 abbrev pub μ-check-field : given.MeasureT-check-field
 μ-check-field l = 2 * l .room

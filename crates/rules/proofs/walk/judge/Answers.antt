@@ -8,7 +8,7 @@ use Rattle.sheet.specs.Contents.{content}
 use Rattle.rules.specs.Models.{ahead}
 use Rattle.rules.specs.Verdict.{first-broken, own-rules, within-limits}
 use Rattle.rules.proofs.VerdictSteps.{closes}
-use Rattle.rules.proofs.check.judge.Needs as need
+use Rattle.rules.proofs.walk.judge.Needs as need
 
 pub returns : need.returns
 returns c =

@@ -10,7 +10,7 @@ use Rattle.sheet.specs.Contents.{content}
 use Rattle.rules.specs.Models.{ahead, row-of, told}
 use Rattle.rules.specs.Verdict.{first-broken, text-rules, counts-fit, site-at}
 use Rattle.rules.proofs.RecordSteps.{counts-told, counts-say, broken-counts, broken-depth, broken-parameters, to-texts, at-ok}
-use Rattle.rules.proofs.check.check_record.Needs as need
+use Rattle.rules.proofs.walk.check_record.Needs as need
 
 pub returns-then-not-counts-fit : need.returns-then-not-counts-fit
 returns-then-not-counts-fit c =

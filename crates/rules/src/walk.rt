@@ -182,3 +182,13 @@ fn judge(sheet: &Sheet) -> Result<(), SheetRefusal>
     let end = check_fields(sheet, own)?;
     check_own_pairs(sheet.text.as_slice(), &pairs[0..own], pairs.len() - end.pair)
 }
+
+/// Looks at a sheet by every rule, in the order of the verdict, and tells the first that is broken.
+/// A sheet that passes is lawful and holds exactly one schema. Nothing is changed.
+pub fn check(sheet: &Sheet) -> Result<(), SheetRefusal>
+    ensures verdict { λ r. ⌜ told r ≡ verdict (content (now (sheet .entry))) ⌝ }
+    ensures lawful { λ r. ⌜ Cases r (λ _. Lawful (content (now (sheet .entry)))) (λ _. Lawful (content (now (sheet .entry))) → ⊥) ⌝ }
+    ensures holds { λ r. ⌜ Cases r (λ _. HoldsOne (content (now (sheet .entry)))) (λ _. Unit {0}) ⌝ }
+{
+    judge(sheet)
+}

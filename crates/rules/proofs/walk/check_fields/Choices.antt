@@ -3,7 +3,7 @@ use mathlib.Core.Path.{_≡_}
 use lib.ListN.{length, drop}
 use Rattle.sheet.specs.Contents.{content}
 use Rattle.rules.specs.Verdict.{walk-row, walk-field}
-use Rattle.rules.proofs.check.check_fields.Given as given
+use Rattle.rules.proofs.walk.check_fields.Given as given
 
 abbrev pub Inv-loop-k : given.InvT-loop-k
 Inv-loop-k l =
