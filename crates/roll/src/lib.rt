@@ -44,6 +44,15 @@ pub fn fetch<T: Copy>(s: &[T], i: usize) -> Option<T>
     if i < s.len() { Some(s[i]) } else { None }
 }
 
+/// The `n` elements from a place on, as far as the slice has them.
+pub fn part<T>(s: &[T], from: usize, n: usize) -> &[T]
+    ensures { λ r. ⌜ now r ≡ take n (drop from (now (s .entry))) ⌝ }
+{
+    let start = from.min(s.len());
+    let size = n.min(s.len() - start);
+    &s[start..start + size]
+}
+
 impl<'a, T: Copy> Roll<'a, T> {
     /// A roll over the caller's places, none of them used.
     pub fn new(places: &'a mut [T]) -> Roll<'a, T>

@@ -9,6 +9,7 @@ use Rattle.std.specs.declared.option.Option.the-variants.{Some, None}
 use Rattle.std.specs.declared.result.Result.the-variants.{Ok, Err}
 use Rattle.std.specs.shelf.Maps.{nth}
 use Rattle.std.proofs.shelf.Lists.{drop-drop}
+use Rattle.roll.proofs.Parted.{drop-at-none, drop-at-some}
 use Rattle.types.specs.declared.FieldRecord.{FieldRecord}
 use Rattle.types.specs.declared.Pair.{Pair}
 use Rattle.sheet.specs.Contents.{Content}
@@ -19,24 +20,6 @@ use Rattle.rules.specs.Tables.{child-rule}
 use Rattle.rules.specs.Sites.{Row, plain, after, row-under}
 use Rattle.rules.specs.Verdict.{Ahead, Walked, unless, then, next, first-broken, field-rules, site-at, past-pairs, walk-children, walk-field, walk-row}
 use Rattle.rules.specs.Models.{ahead}
-
-pub drop-at-none : {X : Type 0} (xs : List X) (i : ℕ) → nth xs i ≡ None → drop i xs ≡ []
-drop-at-none [] zero e = refl
-drop-at-none [] (suc i) e = refl
-drop-at-none (x ∷ xs) zero e = let z : _≡_ {A = ℕ} 0 1 = cc in absurd (omega arith)
-drop-at-none (x ∷ xs) (suc i) e = drop-at-none xs i e
-
-pub drop-at-some : {X : Type 0} (xs : List X) (i : ℕ) (x : X) → nth xs i ≡ Some x → drop i xs ≡ x ∷ drop (i + 1) xs
-drop-at-some [] i x e = let z : _≡_ {A = ℕ} 0 1 = cc in absurd (omega arith)
-drop-at-some (y ∷ xs) zero x e = let same : y ≡ x = cc in ap (λ z. z ∷ xs) same
-drop-at-some (y ∷ xs) (suc i) x e =
-    let more : suc i + 1 ≡ suc (i + 1) = omega arith in
-    drop-at-some xs i x e ∙ ap (λ n. x ∷ drop n (y ∷ xs)) (sym more)
-
-pub within : {X : Type 0} (xs : List X) (i : ℕ) (x : X) → nth xs i ≡ Some x → i < length xs
-within [] i x e = let z : _≡_ {A = ℕ} 0 1 = cc in absurd (omega arith)
-within (y ∷ xs) zero x e = omega arith
-within (y ∷ xs) (suc i) x e = let h = within xs i x e in omega arith
 
 module _ (c : Content) (field : Row → FieldRecord → Ahead → Walked) where
   module _ (n k : ℕ) (row : Row) (at : Place) where

@@ -6,6 +6,7 @@ ghost use Rattle.std.specs.Orderings.{Decides};
 ghost use Rattle.types.specs.declared.Text.{Text};
 ghost use Rattle.sheet.specs.Texts.{said, Spells, First};
 
+use roll::part;
 use types::FieldRecord;
 use types::Pair;
 use types::Text;
@@ -40,9 +41,7 @@ pub impl HasText for Pair as PairHasText {
 pub fn text_bytes(bytes: &[u8], t: Text) -> &[u8]
     ensures { λ r. ⌜ now r ≡ said (now (bytes .entry)) t ⌝ }
 {
-    let start = (t.start as usize).min(bytes.len());
-    let end = (start + t.len as usize).min(bytes.len());
-    &bytes[start..end]
+    part(bytes, t.start as usize, t.len as usize)
 }
 
 /// Whether a text says just these bytes; one that leaves the text bytes never does.

@@ -11,7 +11,8 @@ use Rattle.rules.specs.Sites.{after, row-under}
 use Rattle.rules.specs.Models.{row-of, ahead, walked, Has-room}
 use Rattle.rules.specs.Verdict.{then, walk-children, walk-field}
 use Rattle.rules.proofs.RowSteps.{room-at-first, room-after, room-less}
-use Rattle.rules.proofs.WalkSteps.{within, lacking, one-on, all-on, field-broken, field-on, past-own}
+use Rattle.roll.proofs.Parted.{within}
+use Rattle.rules.proofs.WalkSteps.{lacking, one-on, all-on, field-broken, field-on, past-own}
 use Rattle.rules.proofs.walk.+check_field+check_type.Needs as need
 
 pub check-field-returns-in-Break-check-record : need.check-field-returns-in-Break-check-record

@@ -9,7 +9,8 @@ use Rattle.sheet.specs.Contents.{content}
 use Rattle.rules.specs.Sites.{plain}
 use Rattle.rules.specs.Models.{row-of, ahead, walked}
 use Rattle.rules.specs.Verdict.{then, walk-field, walk-row}
-use Rattle.rules.proofs.WalkSteps.{within, row-ended, row-all-on, row-one-on}
+use Rattle.roll.proofs.Parted.{within}
+use Rattle.rules.proofs.WalkSteps.{row-ended, row-all-on, row-one-on}
 use Rattle.rules.proofs.walk.check_fields.Needs as need
 
 pub loop-k-holds : need.loop-k-holds

@@ -1,0 +1,4 @@
+mod TypeValues
+mod SameLists
+mod SameFields
+mod LineSteps
