@@ -2,11 +2,11 @@ mod RowSteps
 pub mod Utf8
 mod TextSteps
 mod KeySteps
-mod SumSteps
+pub mod SumSteps
 mod RecordSteps
 mod WalkSteps
 mod VerdictSteps
 mod Decided
-mod Grown
-mod Judged
+pub mod Grown
+pub mod Judged
 pub mod Holding

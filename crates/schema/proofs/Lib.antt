@@ -2,3 +2,5 @@ mod TypeValues
 mod SameLists
 mod SameFields
 mod LineSteps
+mod NumberSteps
+mod NumberTruth
