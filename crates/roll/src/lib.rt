@@ -41,7 +41,8 @@ fn store_all<T: Copy>(s: &mut [T], at: usize, xs: &[T])
 pub fn fetch<T: Copy>(s: &[T], i: usize) -> Option<T>
     ensures { λ r. ⌜ r ≡ nth (now (s .entry)) i ⌝ }
 {
-    if i < s.len() { Some(s[i]) } else { None }
+    let n = s.len();
+    if i < n { Some(s[i]) } else { None }
 }
 
 /// The `n` elements from a place on, as far as the slice has them.

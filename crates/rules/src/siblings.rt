@@ -72,7 +72,7 @@ impl Siblings {
     }
 
     /// One field more in the row.
-    pub fn note(&mut self, id: u8)
+    pub(crate) fn note(&mut self, id: u8)
         requires { ⌜ Has-room (row-of (now self)) 1 ⌝ }
         ensures { λ _. ⌜ row-of (now (self .exit)) ≡ after (row-of (now (self .entry))) id ⌝ }
     {

@@ -82,7 +82,7 @@ fn lacks_key(bytes: &[u8], pairs: &[Pair], key: &[u8]) -> bool
 }
 
 /// Whether the keys of pairs whose texts do all differ.
-pub fn keys_differ(bytes: &[u8], pairs: &[Pair]) -> bool
+pub(crate) fn keys_differ(bytes: &[u8], pairs: &[Pair]) -> bool
     requires { ⌜ every (pair-fits (now bytes)) (now pairs) ≡ true ⌝ }
     ensures { λ r. ⌜ r ≡ all-differ (keys (now (bytes .entry)) (now (pairs .entry))) ⌝ }
 {
