@@ -13,17 +13,36 @@ pub fn text(start: u32, len: u32) -> Text {
 
 /// A field of a type with no name, no children and no pairs.
 pub fn leaf(data_type: DataType) -> FieldRecord {
-    FieldRecord { name: text(0, 0), nullable: false, data_type, dictionary: None, children: 0, pairs: 0, type_id: 0 }
+    FieldRecord {
+        name: text(0, 0),
+        nullable: false,
+        data_type,
+        dictionary: None,
+        children: 0,
+        pairs: 0,
+        type_id: 0,
+    }
 }
 
 /// A field of a type with so many children.
 pub fn parent(data_type: DataType, children: u32) -> FieldRecord {
-    FieldRecord { name: text(0, 0), nullable: false, data_type, dictionary: None, children, pairs: 0, type_id: 0 }
+    FieldRecord {
+        name: text(0, 0),
+        nullable: false,
+        data_type,
+        dictionary: None,
+        children,
+        pairs: 0,
+        type_id: 0,
+    }
 }
 
 /// A pair of two empty texts.
 pub fn no_pair() -> Pair {
-    Pair { key: text(0, 0), value: text(0, 0) }
+    Pair {
+        key: text(0, 0),
+        value: text(0, 0),
+    }
 }
 
 /// The number by which a sheet with this content is refused, 0 where it is lawful, and 1 where it finds no place.
@@ -32,7 +51,10 @@ pub fn told(records: &[FieldRecord], pairs: &[Pair], bytes: &[u8], own_pairs: u3
     let mut pair_places = [no_pair(); 1025];
     let mut byte_places = [0u8; 32769];
     let mut sheet = Sheet::new(&mut record_places, &mut pair_places, &mut byte_places);
-    if sheet.records.add_all(records).is_err() || sheet.pairs.add_all(pairs).is_err() || sheet.text.add_all(bytes).is_err() {
+    if sheet.records.add_all(records).is_err()
+        || sheet.pairs.add_all(pairs).is_err()
+        || sheet.text.add_all(bytes).is_err()
+    {
         return 1;
     }
     sheet.own_pairs = own_pairs;
@@ -44,7 +66,15 @@ pub fn told(records: &[FieldRecord], pairs: &[Pair], bytes: &[u8], own_pairs: u3
 
 /// A child of a union with a type id.
 pub fn member(type_id: u8) -> FieldRecord {
-    FieldRecord { name: text(0, 0), nullable: false, data_type: DataType::Null, dictionary: None, children: 0, pairs: 0, type_id }
+    FieldRecord {
+        name: text(0, 0),
+        nullable: false,
+        data_type: DataType::Null,
+        dictionary: None,
+        children: 0,
+        pairs: 0,
+        type_id,
+    }
 }
 
 /// Children of a union with type ids from 0 on.
@@ -56,17 +86,36 @@ pub fn number_members(fields: &mut [FieldRecord]) {
 
 /// A field whose name has so many bytes.
 pub fn named(start: u32, len: u32) -> FieldRecord {
-    FieldRecord { name: text(start, len), nullable: false, data_type: DataType::Null, dictionary: None, children: 0, pairs: 0, type_id: 0 }
+    FieldRecord {
+        name: text(start, len),
+        nullable: false,
+        data_type: DataType::Null,
+        dictionary: None,
+        children: 0,
+        pairs: 0,
+        type_id: 0,
+    }
 }
 
 /// A field with so many pairs.
 pub fn owner(pairs: u32) -> FieldRecord {
-    FieldRecord { name: text(0, 0), nullable: false, data_type: DataType::Null, dictionary: None, children: 0, pairs, type_id: 0 }
+    FieldRecord {
+        name: text(0, 0),
+        nullable: false,
+        data_type: DataType::Null,
+        dictionary: None,
+        children: 0,
+        pairs,
+        type_id: 0,
+    }
 }
 
 /// A pair with a key of one byte and an empty value.
 pub fn keyed(start: u32) -> Pair {
-    Pair { key: text(start, 1), value: text(0, 0) }
+    Pair {
+        key: text(start, 1),
+        value: text(0, 0),
+    }
 }
 
 /// The number told for fields alone, which have no texts and no pairs.
@@ -82,6 +131,9 @@ pub fn of_name(bytes: &[u8], len: u32) -> u32 {
 #[cfg(test)]
 mod tests {
     use super::*;
+    use sheet::PairHasText;
+    use sheet::RecordHasText;
+    use sheet::first_with_text;
     use std::test::*;
     use types::TimeUnit;
     use types::UnionMode;
@@ -99,8 +151,14 @@ mod tests {
     #[test]
     fn summed_lengths() -> Result<(), Fail> {
         check_eq(told(&[named(0, 16384); 2], &[], &[97; 16385], 0), 0)?;
-        check_eq(told(&[named(0, 16384), named(0, 16385)], &[], &[97; 16385], 0), 10)?;
-        check_eq(told(&[named(4294967295, 4294967295); 2], &[], &[97; 4], 0), 10)
+        check_eq(
+            told(&[named(0, 16384), named(0, 16385)], &[], &[97; 16385], 0),
+            10,
+        )?;
+        check_eq(
+            told(&[named(4294967295, 4294967295); 2], &[], &[97; 4], 0),
+            10,
+        )
     }
 
     #[test]
@@ -115,14 +173,50 @@ mod tests {
 
     #[test]
     fn child_counts() -> Result<(), Fail> {
-        check_eq(of_fields(&[parent(DataType::Int32, 1), leaf(DataType::Null)]), 11)?;
-        check_eq(of_fields(&[parent(DataType::List, 1), leaf(DataType::Null)]), 0)?;
+        check_eq(
+            of_fields(&[parent(DataType::Int32, 1), leaf(DataType::Null)]),
+            11,
+        )?;
+        check_eq(
+            of_fields(&[parent(DataType::List, 1), leaf(DataType::Null)]),
+            0,
+        )?;
         check_eq(of_fields(&[parent(DataType::List, 1)]), 11)?;
         check_eq(of_fields(&[leaf(DataType::LargeListView)]), 11)?;
-        check_eq(of_fields(&[parent(DataType::Map(true), 2), leaf(DataType::Null), leaf(DataType::Null)]), 11)?;
-        check_eq(of_fields(&[parent(DataType::RunEndEncoded, 2), leaf(DataType::Null), leaf(DataType::Null)]), 0)?;
-        check_eq(of_fields(&[parent(DataType::RunEndEncoded, 1), leaf(DataType::Null)]), 11)?;
-        check_eq(of_fields(&[parent(DataType::Struct, 3), leaf(DataType::Null), leaf(DataType::Null)]), 11)
+        check_eq(
+            of_fields(
+                &[
+                    parent(DataType::Map(true), 2),
+                    leaf(DataType::Null),
+                    leaf(DataType::Null),
+                ],
+            ),
+            11,
+        )?;
+        check_eq(
+            of_fields(
+                &[
+                    parent(DataType::RunEndEncoded, 2),
+                    leaf(DataType::Null),
+                    leaf(DataType::Null),
+                ],
+            ),
+            0,
+        )?;
+        check_eq(
+            of_fields(&[parent(DataType::RunEndEncoded, 1), leaf(DataType::Null)]),
+            11,
+        )?;
+        check_eq(
+            of_fields(
+                &[
+                    parent(DataType::Struct, 3),
+                    leaf(DataType::Null),
+                    leaf(DataType::Null),
+                ],
+            ),
+            11,
+        )
     }
 
     #[test]
@@ -157,20 +251,67 @@ mod tests {
 
     #[test]
     fn units() -> Result<(), Fail> {
-        check_eq(of_fields(&[leaf(DataType::Time32(TimeUnit::Second)), leaf(DataType::Time32(TimeUnit::Millisecond))]), 0)?;
-        check_eq(of_fields(&[leaf(DataType::Time32(TimeUnit::Microsecond))]), 13)?;
-        check_eq(of_fields(&[leaf(DataType::Time32(TimeUnit::Nanosecond))]), 13)?;
+        check_eq(
+            of_fields(
+                &[
+                    leaf(DataType::Time32(TimeUnit::Second)),
+                    leaf(DataType::Time32(TimeUnit::Millisecond)),
+                ],
+            ),
+            0,
+        )?;
+        check_eq(
+            of_fields(&[leaf(DataType::Time32(TimeUnit::Microsecond))]),
+            13,
+        )?;
+        check_eq(
+            of_fields(&[leaf(DataType::Time32(TimeUnit::Nanosecond))]),
+            13,
+        )?;
         check_eq(of_fields(&[leaf(DataType::Time64(TimeUnit::Second))]), 13)?;
-        check_eq(of_fields(&[leaf(DataType::Time64(TimeUnit::Millisecond))]), 13)?;
-        check_eq(of_fields(&[leaf(DataType::Time64(TimeUnit::Microsecond)), leaf(DataType::Time64(TimeUnit::Nanosecond))]), 0)
+        check_eq(
+            of_fields(&[leaf(DataType::Time64(TimeUnit::Millisecond))]),
+            13,
+        )?;
+        check_eq(
+            of_fields(
+                &[
+                    leaf(DataType::Time64(TimeUnit::Microsecond)),
+                    leaf(DataType::Time64(TimeUnit::Nanosecond)),
+                ],
+            ),
+            0,
+        )
     }
 
     #[test]
     fn zones() -> Result<(), Fail> {
-        check_eq(of_fields(&[leaf(DataType::Timestamp(TimeUnit::Second, None))]), 0)?;
-        check_eq(of_fields(&[leaf(DataType::Timestamp(TimeUnit::Second, Some(text(0, 0))))]), 13)?;
-        check_eq(told(&[leaf(DataType::Timestamp(TimeUnit::Second, Some(text(0, 3))))], &[], b"UTC", 0), 0)?;
-        check_eq(told(&[leaf(DataType::Timestamp(TimeUnit::Second, Some(text(1, 3))))], &[], b"UTC", 0), 14)
+        check_eq(
+            of_fields(&[leaf(DataType::Timestamp(TimeUnit::Second, None))]),
+            0,
+        )?;
+        check_eq(
+            of_fields(&[leaf(DataType::Timestamp(TimeUnit::Second, Some(text(0, 0))))]),
+            13,
+        )?;
+        check_eq(
+            told(
+                &[leaf(DataType::Timestamp(TimeUnit::Second, Some(text(0, 3))))],
+                &[],
+                b"UTC",
+                0,
+            ),
+            0,
+        )?;
+        check_eq(
+            told(
+                &[leaf(DataType::Timestamp(TimeUnit::Second, Some(text(1, 3))))],
+                &[],
+                b"UTC",
+                0,
+            ),
+            14,
+        )
     }
 
     #[test]
@@ -189,9 +330,25 @@ mod tests {
     fn keys() -> Result<(), Fail> {
         check_eq(told(&[owner(2)], &[keyed(0), keyed(1)], b"ab", 0), 0)?;
         check_eq(told(&[owner(2)], &[keyed(0), keyed(1)], b"aa", 0), 15)?;
-        check_eq(told(&[owner(1), owner(1)], &[keyed(0), keyed(0)], b"a", 0), 0)?;
+        check_eq(
+            told(&[owner(1), owner(1)], &[keyed(0), keyed(0)], b"a", 0),
+            0,
+        )?;
         check_eq(told(&[], &[keyed(0), keyed(0)], b"a", 2), 15)?;
         check_eq(told(&[owner(1)], &[keyed(0), keyed(0)], b"a", 1), 0)
+    }
+
+    #[test]
+    fn search() -> Result<(), Fail> {
+        let records = [named(9, 2), named(1, 2), named(0, 2), named(1, 2)];
+        check_eq(first_with_text(&records, b"abc", b"bc"), Some(1))?;
+        check_eq(first_with_text(&records, b"abc", b"ab"), Some(2))?;
+        check_eq(first_with_text(&records, b"abc", b""), None)?;
+        check_eq(first_with_text(&records, b"abcdefghij", b"j"), None)?;
+        check_eq(
+            first_with_text(&[keyed(2), keyed(0), keyed(0)], b"ab", b"a"),
+            Some(1),
+        )
     }
 
     #[test]

@@ -15,7 +15,13 @@ pub enum Command {
     Alike,
 }
 
-static COMMANDS: [Command; 5] = [Command::Check, Command::Show, Command::Numbers, Command::Keep, Command::Alike];
+static COMMANDS: [Command; 5] = [
+    Command::Check,
+    Command::Show,
+    Command::Numbers,
+    Command::Keep,
+    Command::Alike,
+];
 
 pub impl Named for Command as CommandNamed {
     ghost spelling = { command-name };
@@ -41,5 +47,9 @@ pub fn read_command(line: &[u8]) -> Result<Option<Command>, LineFault> {
     let Some(command) = by_name(cursor.word()) else {
         return Ok(None);
     };
-    if cursor.at_end() { Ok(Some(command)) } else { Err(LineFault::Trailing) }
+    if cursor.at_end() {
+        Ok(Some(command))
+    } else {
+        Err(LineFault::Trailing)
+    }
 }

@@ -13,13 +13,13 @@ use crate::outcome::RowDisplay;
 use crate::outcome::StepSaid;
 use crate::outcome::StepSaidDisplay;
 use crate::outcome::untold;
-use listing_words::fault::LineFault;
-use listing_words::fault::LineFaultDisplay;
 use listing::fill::Filler;
 use listing::fill::Step;
-use listing_words::names::Named;
 use listing_show::show::Listing;
 use listing_show::show::ListingDisplay;
+use listing_words::fault::LineFault;
+use listing_words::fault::LineFaultDisplay;
+use listing_words::names::Named;
 use roll::Full;
 use roll::Roll;
 use rules::check;
@@ -87,7 +87,12 @@ fn print_fault(rt: &LibcRuntime, number: u64, fault: LineFault) -> Result<(), An
 
 impl<'a> Desk<'a> {
     pub fn new(heap: Global, sheet: Sheet<'a>, kept: Sheet<'a>) -> Desk<'a> {
-        Desk { heap, filler: Filler::new(heap), sheet, kept }
+        Desk {
+            heap,
+            filler: Filler::new(heap),
+            sheet,
+            kept,
+        }
     }
 
     fn show(&self, rt: &LibcRuntime, number: u64) -> Result<(), AnyError> {
@@ -110,7 +115,12 @@ impl<'a> Desk<'a> {
         Ok(())
     }
 
-    fn run_command(&mut self, rt: &LibcRuntime, number: u64, command: Command) -> Result<(), AnyError> {
+    fn run_command(
+        &mut self,
+        rt: &LibcRuntime,
+        number: u64,
+        command: Command,
+    ) -> Result<(), AnyError> {
         let outcome = match command {
             Command::Show => return self.show(rt, number),
             Command::Numbers => return self.tell_numbers(rt, number),
@@ -127,7 +137,10 @@ impl<'a> Desk<'a> {
         match self.filler.lay(self.heap, &mut self.sheet, line) {
             Ok(Step::Passed) => {}
             Ok(step) => {
-                let said = StepSaid { sheet: &self.sheet, step };
+                let said = StepSaid {
+                    sheet: &self.sheet,
+                    step,
+                };
                 println!(rt, "line {number}: {said}")?;
             }
             Err(fault) => print_fault(rt, number, fault)?,

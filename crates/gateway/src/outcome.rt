@@ -6,8 +6,8 @@ use listing_show::quote::QuotedDisplay;
 use rules::SheetRefusal;
 use schema::NumbersRefusal;
 use sheet::Sheet;
-use types::Text;
 use std::fmt;
+use types::Text;
 
 /// What a command found.
 #[derive(Clone, Copy)]
@@ -91,11 +91,17 @@ pub impl fmt::Display for StepSaid<'_, '_> as StepSaidDisplay {
         match self.step {
             Step::Passed => Ok(()),
             Step::Emptied => f.write_str("schema: an empty sheet"),
-            Step::PairLaid { key, owner: Owner::Schema } => {
+            Step::PairLaid {
+                key,
+                owner: Owner::Schema,
+            } => {
                 let key = quoted(self.sheet, key);
                 write!(f, "pair {key} laid for the schema")
             }
-            Step::PairLaid { key, owner: Owner::Record(i) } => {
+            Step::PairLaid {
+                key,
+                owner: Owner::Record(i),
+            } => {
                 let key = quoted(self.sheet, key);
                 write!(f, "pair {key} laid for record {i}")
             }

@@ -23,13 +23,27 @@ moved-pair by p = record { key = moved-text by (p .key); value = moved-text by (
 -- A field with one more child, or one more pair.
 abbrev pub more-children : FieldRecord → FieldRecord
 more-children x =
-    record { name = x .name; nullable = x .nullable; «data_type» = x .«data_type»; dictionary = x .dictionary
-           ; children = x .children + 1; pairs = x .pairs; «type_id» = x .«type_id» }
+    record {
+      name = x .name;
+      nullable = x .nullable;
+      «data_type» = x .«data_type»;
+      dictionary = x .dictionary;
+      children = x .children + 1;
+      pairs = x .pairs;
+      «type_id» = x .«type_id»;
+    }
 
 abbrev pub more-pairs : FieldRecord → FieldRecord
 more-pairs x =
-    record { name = x .name; nullable = x .nullable; «data_type» = x .«data_type»; dictionary = x .dictionary
-           ; children = x .children; pairs = x .pairs + 1; «type_id» = x .«type_id» }
+    record {
+      name = x .name;
+      nullable = x .nullable;
+      «data_type» = x .«data_type»;
+      dictionary = x .dictionary;
+      children = x .children;
+      pairs = x .pairs + 1;
+      «type_id» = x .«type_id»;
+    }
 
 -- A change of the record at a place, and of no other.
 abbrev pub ChangedAt : (FieldRecord → FieldRecord) → ℕ → List FieldRecord → List FieldRecord → Type 0

@@ -9,20 +9,20 @@ ghost use Rattle.std.specs.shelf.Maps.{nth};
 ghost use Rattle.std.specs.declared.option.Option.the-variants.{Some};
 ghost use Rattle.types.specs.declared.FieldRecord.{FieldRecord};
 ghost use Rattle.listing.specs.Filling.{moved-text, moved-pair, more-pairs, more-children, PairLaid, FieldLaid, PairAdded, FieldAdded};
-use listing_words::fault::LineFault;
-use listing_words::fault::LineFaultFromAlloc;
-use listing_words::fault::LineFaultFromFull;
 use crate::line::FieldLine;
 use crate::line::Line;
 use crate::line::PairLine;
 use crate::line::read_line;
+use listing_words::fault::LineFault;
+use listing_words::fault::LineFaultFromAlloc;
+use listing_words::fault::LineFaultFromFull;
 use roll::fetch;
+use sheet::Sheet;
+use std::alloc::Global;
 use types::DataType;
 use types::FieldRecord;
 use types::Pair;
-use sheet::Sheet;
 use types::Text;
-use std::alloc::Global;
 
 /// Whose pair a pair is.
 #[derive(Clone, Copy)]
@@ -36,8 +36,15 @@ pub enum Owner {
 pub enum Step {
     Passed,
     Emptied,
-    PairLaid { key: Text, owner: Owner },
-    FieldLaid { depth: usize, name: Text, place: usize },
+    PairLaid {
+        key: Text,
+        owner: Owner,
+    },
+    FieldLaid {
+        depth: usize,
+        name: Text,
+        place: usize,
+    },
 }
 
 // A text of a line, as it stands once the line's texts are laid behind so many bytes.
@@ -53,12 +60,18 @@ fn moved(t: Text, by: u32) -> Result<Text, LineFault>
 fn moved_pair(pair: Pair, by: u32) -> Result<Pair, LineFault>
     ensures { λ r. ⌜ made r (λ x. x ≡ moved-pair by pair) ⌝ }
 {
-    Ok(Pair { key: moved(pair.key, by)?, value: moved(pair.value, by)? })
+    Ok(Pair {
+        key: moved(pair.key, by)?,
+        value: moved(pair.value, by)?,
+    })
 }
 
 fn moved_type(t: DataType, by: u32) -> Result<DataType, LineFault> {
     match t {
-        DataType::Timestamp(unit, Some(zone)) => Ok(DataType::Timestamp(unit, Some(moved(zone, by)?))),
+        DataType::Timestamp(unit, Some(zone)) => Ok(DataType::Timestamp(
+            unit,
+            Some(moved(zone, by)?),
+        )),
         other => Ok(other),
     }
 }
@@ -66,7 +79,11 @@ fn moved_type(t: DataType, by: u32) -> Result<DataType, LineFault> {
 fn moved_field(field: FieldRecord, by: u32) -> Result<FieldRecord, LineFault> {
     let name = moved(field.name, by)?;
     let data_type = moved_type(field.data_type, by)?;
-    Ok(FieldRecord { name, data_type, ..field })
+    Ok(FieldRecord {
+        name,
+        data_type,
+        ..field
+    })
 }
 
 // A count with one more.
@@ -84,7 +101,11 @@ fn text_end(sheet: &Sheet) -> Result<u32, LineFault>
     ensures { λ r. ⌜ made r (λ n. n ≡ length (content (now (sheet .entry)) .bytes)) ⌝ }
 {
     let n = sheet.text.len();
-    if n > u32::MAX as usize { Err(LineFault::NoPlace) } else { Ok(n as u32) }
+    if n > u32::MAX as usize {
+        Err(LineFault::NoPlace)
+    } else {
+        Ok(n as u32)
+    }
 }
 
 // The record at a place with one more pair.
@@ -152,7 +173,12 @@ fn place_pair(sheet: &mut Sheet, text: &[u8], pair: Pair) -> Result<Owner, LineF
 }
 
 // Lays a field, and counts it with the field above it where there is one.
-fn place_field(sheet: &mut Sheet, text: &[u8], field: FieldRecord, parent: Option<usize>) -> Result<(), LineFault>
+fn place_field(
+    sheet: &mut Sheet,
+    text: &[u8],
+    field: FieldRecord,
+    parent: Option<usize>,
+) -> Result<(), LineFault>
     ensures { λ r. ⌜ Cases r (λ _. FieldAdded parent (content (now (sheet .entry))) (now (text .entry)) field (content (now (sheet .exit)))) (λ _. content (now (sheet .exit)) ≡ content (now (sheet .entry))) ⌝ }
 {
     let Some(i) = parent else {
@@ -170,7 +196,10 @@ fn add_pair(sheet: &mut Sheet, line: &PairLine) -> Result<Step, LineFault>
 {
     let pair = moved_pair(line.pair, text_end(sheet)?)?;
     let owner = place_pair(sheet, line.text.as_slice(), pair)?;
-    Ok(Step::PairLaid { key: pair.key, owner })
+    Ok(Step::PairLaid {
+        key: pair.key,
+        owner,
+    })
 }
 
 /// Fills a sheet from lines. It keeps the path from a top field to the last one, as their places by depth.
@@ -182,7 +211,9 @@ pub struct Filler {
 impl Filler {
     /// A filler at the start of a sheet.
     pub fn new(heap: Global) -> Filler {
-        Filler { path: Vec::new(heap) }
+        Filler {
+            path: Vec::new(heap),
+        }
     }
 
     // The field above one at this depth: none at depth 1, and refused where no such field is open.
@@ -214,7 +245,11 @@ impl Filler {
         let place = sheet.records.len();
         place_field(sheet, line.text.as_slice(), field, parent)?;
         self.open(line.depth, place);
-        Ok(Step::FieldLaid { depth: line.depth, name: field.name, place })
+        Ok(Step::FieldLaid {
+            depth: line.depth,
+            name: field.name,
+            place,
+        })
     }
 
     /// Lays a line on the sheet. A bad line leaves what stands on the sheet as it was.

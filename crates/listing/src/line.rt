@@ -1,16 +1,16 @@
 //! A line of a listing as a value, apart from any sheet.
+use crate::type_words::read_type;
 use listing_words::fault::LineFault;
-use listing_words::names::by_name;
 use listing_words::names::IndexTypeNamed;
 use listing_words::names::Keyword;
+use listing_words::names::by_name;
 use listing_words::names::next_keyword;
 use listing_words::token::Cursor;
 use listing_words::token::quoted_text;
-use crate::type_words::read_type;
+use std::alloc::Global;
 use types::Dictionary;
 use types::FieldRecord;
 use types::Pair;
-use std::alloc::Global;
 
 /// A pair with the bytes of its texts. The texts tell places among these bytes.
 #[derive(Drop)]
@@ -40,7 +40,10 @@ fn read_pair(heap: Global, cursor: &mut Cursor) -> Result<PairLine, LineFault> {
     let mut text = Vec::new(heap);
     let key = quoted_text(cursor, &mut text)?;
     let value = quoted_text(cursor, &mut text)?;
-    Ok(PairLine { text, pair: Pair { key, value } })
+    Ok(PairLine {
+        text,
+        pair: Pair { key, value },
+    })
 }
 
 fn read_nullable(cursor: &mut Cursor) -> Result<bool, LineFault> {
@@ -65,9 +68,17 @@ fn read_dictionary(cursor: &mut Cursor) -> Result<Dictionary, LineFault> {
     let index_type = by_name(cursor.word()).ok_or(LineFault::DictionaryWanted)?;
     cursor.expect(b',', LineFault::DictionaryWanted)?;
     let ordered = read_ordered(cursor)?;
-    let number = if cursor.takes(b',') { cursor.number()? } else { 0 };
+    let number = if cursor.takes(b',') {
+        cursor.number()?
+    } else {
+        0
+    };
     cursor.expect(b')', LineFault::DictionaryWanted)?;
-    Ok(Dictionary { index_type, ordered, number })
+    Ok(Dictionary {
+        index_type,
+        ordered,
+        number,
+    })
 }
 
 fn read_type_id(cursor: &mut Cursor) -> Result<u8, LineFault> {
@@ -105,7 +116,15 @@ fn read_field(heap: Global, cursor: &mut Cursor) -> Result<FieldLine, LineFault>
     let data_type = read_type(cursor, &mut text)?;
     let nullable = read_nullable(cursor)?;
     let (dictionary, type_id) = read_options(cursor)?;
-    let field = FieldRecord { name, nullable, data_type, dictionary, children: 0, pairs: 0, type_id };
+    let field = FieldRecord {
+        name,
+        nullable,
+        data_type,
+        dictionary,
+        children: 0,
+        pairs: 0,
+        type_id,
+    };
     Ok(FieldLine { depth, text, field })
 }
 
@@ -121,5 +140,9 @@ pub fn read_line(heap: Global, line: &[u8]) -> Result<Line, LineFault> {
         Some(Keyword::Field) => Line::Field(read_field(heap, &mut cursor)?),
         _ => return Err(LineFault::UnknownCommand),
     };
-    if cursor.at_end() { Ok(said) } else { Err(LineFault::Trailing) }
+    if cursor.at_end() {
+        Ok(said)
+    } else {
+        Err(LineFault::Trailing)
+    }
 }

@@ -5,10 +5,10 @@ ghost use lib.ListN.{length};
 ghost use Rattle.std.specs.Of.Vec.{vec-len};
 ghost use Rattle.std.specs.Options.{Cases as BySome};
 ghost use Rattle.std.specs.Vec.{made};
-use types::DataType;
-use types::FieldRecord;
 use std::alloc::AllocError;
 use std::alloc::Global;
+use types::DataType;
+use types::FieldRecord;
 
 /// Where a record stands.
 #[derive(Clone, Copy)]
@@ -48,10 +48,19 @@ fn next_place(path: &mut Vec<Open>, field: &FieldRecord) -> Result<Place, AllocE
     let mut in_union = false;
     if let Some(parent) = next_parent(path) {
         in_union = parent.of_union;
-        path.push(Open { left: parent.left - 1, of_union: in_union })?;
+        path.push(Open {
+            left: parent.left - 1,
+            of_union: in_union,
+        })?;
     }
-    path.push(Open { left: field.children, of_union: is_union(field.data_type) })?;
-    Ok(Place { depth: u32::try_from(path.len()).unwrap_or(u32::MAX), in_union })
+    path.push(Open {
+        left: field.children,
+        of_union: is_union(field.data_type),
+    })?;
+    Ok(Place {
+        depth: u32::try_from(path.len()).unwrap_or(u32::MAX),
+        in_union,
+    })
 }
 
 /// The places of records in preorder. Where the counts do not fit, a record with no parent stands at the top.

@@ -17,7 +17,11 @@ fn hex_char(d: u8) -> char
     requires { ⌜ d < 16 ⌝ }
     ensures { λ r. ⌜ r ≡ cond (ltb d 10) (48 + d) (87 + d) ⌝ }
 {
-    if d < 10 { (b'0' + d) as char } else { (b'a' - 10 + d) as char }
+    if d < 10 {
+        (b'0' + d) as char
+    } else {
+        (b'a' - 10 + d) as char
+    }
 }
 
 // A byte as an escape.

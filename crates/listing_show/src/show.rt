@@ -2,25 +2,25 @@
 ghost use mathlib.Core.Path.{_≡_};
 ghost use Prim.Native.Nat.{min};
 ghost use lib.ListN.{length};
+use crate::place::Place;
+use crate::place::places;
+use crate::quote::show_quoted;
 use listing_words::names::DataTypeNamed;
 use listing_words::names::IndexTypeNamed;
 use listing_words::names::IntervalUnitNamed;
 use listing_words::names::Named;
 use listing_words::names::TimeUnitNamed;
 use listing_words::names::UnionModeNamed;
-use crate::place::Place;
-use crate::place::places;
-use crate::quote::show_quoted;
+use sheet::Sheet;
+use std::alloc::AllocError;
+use std::alloc::Global;
+use std::fmt;
 use types::DataType;
 use types::Dictionary;
 use types::FieldRecord;
 use types::Pair;
-use sheet::Sheet;
 use types::Text;
 use types::TimeUnit;
-use std::alloc::AllocError;
-use std::alloc::Global;
-use std::fmt;
 
 // A text of the sheet. One that leaves the text bytes has nothing to print.
 fn show_text<W: fmt::Write>(f: &mut fmt::Formatter<W>, sheet: &Sheet, t: Text) -> fmt::Result {
@@ -42,7 +42,12 @@ fn show_named<W: fmt::Write>(f: &mut fmt::Formatter<W>, name: &str) -> fmt::Resu
     f.write_str(")")
 }
 
-fn show_stamp<W: fmt::Write>(f: &mut fmt::Formatter<W>, sheet: &Sheet, unit: TimeUnit, zone: Option<Text>) -> fmt::Result {
+fn show_stamp<W: fmt::Write>(
+    f: &mut fmt::Formatter<W>,
+    sheet: &Sheet,
+    unit: TimeUnit,
+    zone: Option<Text>,
+) -> fmt::Result {
     let Some(zone) = zone else {
         return show_named(f, unit.name());
     };
@@ -67,10 +72,17 @@ fn show_digits<W: fmt::Write>(f: &mut fmt::Formatter<W>, precision: u8, scale: i
     f.write_str(")")
 }
 
-fn show_parameters<W: fmt::Write>(f: &mut fmt::Formatter<W>, sheet: &Sheet, t: DataType) -> fmt::Result {
+fn show_parameters<W: fmt::Write>(
+    f: &mut fmt::Formatter<W>,
+    sheet: &Sheet,
+    t: DataType,
+) -> fmt::Result {
     match t {
         DataType::FixedSizeBinary(n) | DataType::FixedSizeList(n) => show_width(f, n),
-        DataType::Time32(unit) | DataType::Time64(unit) | DataType::Duration(unit) => show_named(f, unit.name()),
+        DataType::Time32(unit) | DataType::Time64(unit) | DataType::Duration(unit) => show_named(
+            f,
+            unit.name(),
+        ),
         DataType::Timestamp(unit, zone) => show_stamp(f, sheet, unit, zone),
         DataType::Interval(unit) => show_named(f, unit.name()),
         DataType::Union(mode) => show_named(f, mode.name()),
@@ -84,14 +96,26 @@ fn show_parameters<W: fmt::Write>(f: &mut fmt::Formatter<W>, sheet: &Sheet, t: D
 fn show_dictionary<W: fmt::Write>(f: &mut fmt::Formatter<W>, d: Dictionary) -> fmt::Result {
     f.write_str(" dictionary(")?;
     f.write_str(d.index_type.name())?;
-    f.write_str(if d.ordered { ", ordered, " } else { ", unordered, " })?;
+    f.write_str(if d.ordered {
+        ", ordered, "
+    } else {
+        ", unordered, "
+    })?;
     show_number(f, d.number)?;
     f.write_str(")")
 }
 
 // What stands behind the type. The type id is left out where it is 0 and the field is no child of a union.
-fn show_options<W: fmt::Write>(f: &mut fmt::Formatter<W>, field: &FieldRecord, in_union: bool) -> fmt::Result {
-    f.write_str(if field.nullable { " nullable" } else { " required" })?;
+fn show_options<W: fmt::Write>(
+    f: &mut fmt::Formatter<W>,
+    field: &FieldRecord,
+    in_union: bool,
+) -> fmt::Result {
+    f.write_str(if field.nullable {
+        " nullable"
+    } else {
+        " required"
+    })?;
     if let Some(d) = field.dictionary {
         show_dictionary(f, d)?;
     }
@@ -102,7 +126,12 @@ fn show_options<W: fmt::Write>(f: &mut fmt::Formatter<W>, field: &FieldRecord, i
     Ok(())
 }
 
-fn show_field<W: fmt::Write>(f: &mut fmt::Formatter<W>, sheet: &Sheet, field: &FieldRecord, place: Place) -> fmt::Result {
+fn show_field<W: fmt::Write>(
+    f: &mut fmt::Formatter<W>,
+    sheet: &Sheet,
+    field: &FieldRecord,
+    place: Place,
+) -> fmt::Result {
     f.write_str("field ")?;
     show_number(f, i64::from(place.depth))?;
     f.write_str(" ")?;
@@ -114,7 +143,11 @@ fn show_field<W: fmt::Write>(f: &mut fmt::Formatter<W>, sheet: &Sheet, field: &F
     f.write_str("\n")
 }
 
-fn show_pairs<W: fmt::Write>(f: &mut fmt::Formatter<W>, sheet: &Sheet, pairs: &[Pair]) -> fmt::Result {
+fn show_pairs<W: fmt::Write>(
+    f: &mut fmt::Formatter<W>,
+    sheet: &Sheet,
+    pairs: &[Pair],
+) -> fmt::Result {
     for pair in pairs {
         f.write_str("pair ")?;
         show_text(f, sheet, pair.key)?;

@@ -106,7 +106,12 @@ pub impl Named for TimeUnit as TimeUnitNamed {
     }
 
     fn all() -> &'static [TimeUnit] {
-        &[TimeUnit::Second, TimeUnit::Millisecond, TimeUnit::Microsecond, TimeUnit::Nanosecond]
+        &[
+            TimeUnit::Second,
+            TimeUnit::Millisecond,
+            TimeUnit::Microsecond,
+            TimeUnit::Nanosecond,
+        ]
     }
 }
 
@@ -122,7 +127,11 @@ pub impl Named for IntervalUnit as IntervalUnitNamed {
     }
 
     fn all() -> &'static [IntervalUnit] {
-        &[IntervalUnit::YearMonth, IntervalUnit::DayTime, IntervalUnit::MonthDayNano]
+        &[
+            IntervalUnit::YearMonth,
+            IntervalUnit::DayTime,
+            IntervalUnit::MonthDayNano,
+        ]
     }
 }
 

@@ -7,9 +7,9 @@ ghost use Rattle.listing_words.specs.Tokens.{kind-of, hex-value};
 use crate::fault::LineFault;
 use crate::fault::LineFaultFromRefused;
 use roll::fetch;
-use types::Text;
-use std::str::from_utf8;
 use std::str::FromStr;
+use std::str::from_utf8;
+use types::Text;
 
 /// What a byte is to a line: part of a space, of a word, or a mark that stands alone.
 #[derive(Clone, Copy, PartialEq)]
@@ -71,7 +71,11 @@ impl<'a> Cursor<'a> {
 
     // What was not read yet.
     fn rest(&self) -> &'a [u8] {
-        if self.at < self.line.len() { &self.line[self.at..] } else { &[] }
+        if self.at < self.line.len() {
+            &self.line[self.at..]
+        } else {
+            &[]
+        }
     }
 
     // The next byte, which is then read.

@@ -84,7 +84,11 @@ impl<'a, T: Copy> Roll<'a, T> {
     pub fn get(&self, i: usize) -> Option<T>
         ensures { λ r. ⌜ r ≡ nth (items (now (self .entry))) i ⌝ }
     {
-        if i < self.used { fetch(self.places, i) } else { None }
+        if i < self.used {
+            fetch(self.places, i)
+        } else {
+            None
+        }
     }
 
     /// The elements in order.

@@ -1,12 +1,11 @@
 -- Each test of the check decides its rule.
-use mathlib.Core.Path.{_≡_, refl, sym, ap, _∙_}
-use mathlib.Core.Bool.{Bool, true, false, not, _&&_, _||_, cond}
+use mathlib.Core.Path.{_≡_, refl, ap, _∙_}
+use mathlib.Core.Bool.{Bool, true, false, not, _&&_, cond}
 use mathlib.Core.List.{List, [], _∷_}
-use mathlib.Core.Logic.{⊎-elim}
 use Prim.Native.Nat.{ℕ, _+_, _-_, _<_, _≤_}
 use native.Mathlib.Omega.{arith}
 use lib.Dec.{eqb, leb}
-use lib.ListN.{length, take, drop}
+use lib.ListN.{length}
 use Rattle.std.specs.Orderings.{Decides}
 use Rattle.std.specs.Options.{Cases}
 use Rattle.std.specs.declared.option.Option.{Option}
@@ -15,22 +14,19 @@ use Rattle.std.specs.Text.{Utf8}
 use Rattle.std.specs.shelf.Lists.{All}
 use Rattle.std.specs.shelf.Text.{sameBytes}
 use Rattle.std.proofs.shelf.Equals.{sameBytes-decides}
-use Rattle.std.proofs.shelf.Tests.{and-parts, and-from, or-parts, or-from, leb-true, le-leb, eqb-true, eqb-false, eq-eqb, ne-eqb, both-ways, not-true, not-from-false, cases-bool}
+use Rattle.std.proofs.shelf.Tests.{and-parts, and-from, or-parts, or-from, leb-true, le-leb, eqb-true, eqb-false, eq-eqb, ne-eqb, both-ways, not-true, not-from-false}
 use Rattle.types.specs.declared.Text.{Text}
 use Rattle.types.specs.declared.Pair.{Pair}
-use Rattle.types.specs.declared.FieldRecord.{FieldRecord}
 use Rattle.types.specs.Types.{zone-of}
-use Rattle.sheet.specs.Contents.{Content}
 use Rattle.sheet.specs.Texts.{said, Within}
 use Rattle.rules.specs.declared.tables.ChildRule.{ChildRule}
 use Rattle.rules.specs.declared.tables.ChildRule.the-variants.{Leaf, One, Two, Any, OfUnion}
 use Rattle.rules.specs.declared.refusal.SheetRefusal.{SheetRefusal}
-use Rattle.rules.specs.declared.refusal.SheetRefusal.the-variants.{Counts, TooDeep, Parameter, BadText, RepeatedKey}
 use Rattle.rules.specs.Tables.{child-rule, Count-fits, count-fits, unit-fits}
 use Rattle.rules.specs.Sites.{Row, plain, in-union, Site, own-pairs}
-use Rattle.rules.specs.Tests.{max-depth, among, id-fits, zone-fits, is-utf8, text-fits, zone-text-fits, pair-fits, every, texts-fit, keys, lacks, all-differ}
+use Rattle.rules.specs.Tests.{max-depth, among, id-fits, zone-fits, text-fits, zone-text-fits, pair-fits, every, texts-fit, keys, lacks, all-differ}
 use Rattle.rules.specs.Lawful.{Id-fits, Text-fits, Pair-fits, Texts-fit, Differ}
-use Rattle.rules.specs.Verdict.{Rules, first-broken, counts-fit, parameters-fit, field-rules}
+use Rattle.rules.specs.Verdict.{Rules, first-broken, field-rules}
 use Rattle.rules.proofs.Utf8.{utf8-decided}
 
 not-decided : (P : Type 0) (b : Bool) → Decides b P → Decides (not b) (P → ⊥)
@@ -60,9 +56,10 @@ count-decided OfUnion n = leb-decided n 128
 new-decided : (id : ℕ) (ids : List ℕ) → Decides (not (among id ids)) (All (λ other. other ≡ id → ⊥) ids)
 new-decided id [] = (λ e. tt, λ a. refl)
 new-decided id (x ∷ xs) =
-    let d = new-decided id xs in
-    (λ e. let p = or-parts (eqb x id) (among id xs) (not-true _ e) in (eqb-false x id (p .0), d .0 (not-from-false _ (p .1))),
-     λ a. not-from-false _ (or-from (eqb x id) (among id xs) (ne-eqb x id (a .0)) (not-true _ (d .1 (a .1)))))
+    let d = new-decided id xs in (
+      λ e. let p = or-parts (eqb x id) (among id xs) (not-true _ e) in (eqb-false x id (p .0), d .0 (not-from-false _ (p .1))),
+      λ a. not-from-false _ (or-from (eqb x id) (among id xs) (ne-eqb x id (a .0)) (not-true _ (d .1 (a .1)))),
+    )
 
 id-decided : (row : Row) (id : ℕ) → Decides (id-fits row id) (Id-fits row id)
 id-decided plain id = eqb-decided id 0
@@ -70,9 +67,10 @@ id-decided (in-union ids) id = and-decided (id ≤ 127) (All (λ other. other �
 
 zone-decided : (o : Option Text) → Decides (zone-fits o) (Cases o (Unit {0}) (λ t. 0 < t .len))
 zone-decided None = (λ e. tt, λ u. refl)
-zone-decided (Some t) =
-    (λ e. let n = eqb-false (t .len) 0 (not-true _ e) in omega (arith, n),
-     λ h. not-from-false _ (ne-eqb (t .len) 0 (λ z. omega arith)))
+zone-decided (Some t) = (
+  λ e. let n = eqb-false (t .len) 0 (not-true _ e) in omega (arith, n),
+  λ h. not-from-false _ (ne-eqb (t .len) 0 (λ z. omega arith)),
+)
 
 module _ (bytes : List ℕ) where
   text-decided : (t : Text) → Decides (text-fits bytes t) (Text-fits bytes t)
@@ -89,9 +87,10 @@ module _ (bytes : List ℕ) where
   texts-decided s =
       let n = text-decided (s .head .name) in
       let z = zone-text-decided (zone-of (s .head .«data_type»)) in
-      let p = every-decided (Pair-fits bytes) (pair-fits bytes) pair-decided (own-pairs s) in
-      (λ e. let a = and-parts _ _ e in let b = and-parts _ _ (a .0) in (n .0 (b .0), z .0 (b .1), p .0 (a .1)),
-       λ t. and-from _ _ (and-from _ _ (n .1 (t .0)) (z .1 (t .1))) (p .1 (t .2)))
+      let p = every-decided (Pair-fits bytes) (pair-fits bytes) pair-decided (own-pairs s) in (
+        λ e. let a = and-parts _ _ e in let b = and-parts _ _ (a .0) in (n .0 (b .0), z .0 (b .1), p .0 (a .1)),
+        λ t. and-from _ _ (and-from _ _ (n .1 (t .0)) (z .1 (t .1))) (p .1 (t .2)),
+      )
 
 lacks-decided : (k : List ℕ) (ks : List (List ℕ)) → Decides (lacks k ks) (All (λ other. other ≡ k → ⊥) ks)
 lacks-decided k ks = every-decided (λ other. other ≡ k → ⊥) (λ other. not (sameBytes other k)) (λ other. not-decided (other ≡ k) (sameBytes other k) (sameBytes-decides other k)) ks
@@ -131,19 +130,26 @@ module _ (bytes : List ℕ) (s : Site) where
       let counts = and-parts _ _ (a .0) in
       let rest = and-parts _ _ (a .1 .1 .0) in
       let ids = and-parts _ _ (rest .0) in
-      record { count = count-decided _ _ .0 (counts .0)
-             ; pairs = leb-true _ _ (counts .1)
-             ; depth = leb-true _ _ (a .1 .0)
-             ; type-id = id-decided _ _ .0 (ids .0)
-             ; unit = ids .1
-             ; zone = zone-decided (zone-of (s .head .«data_type»)) .0 (rest .1)
-             ; texts = texts-decided bytes s .0 (a .1 .1 .1 .0)
-             ; keys-differ = differ-decided (keys bytes (own-pairs s)) .0 (a .1 .1 .1 .1 .0) }
+      record {
+        count = count-decided _ _ .0 (counts .0);
+        pairs = leb-true _ _ (counts .1);
+        depth = leb-true _ _ (a .1 .0);
+        type-id = id-decided _ _ .0 (ids .0);
+        unit = ids .1;
+        zone = zone-decided (zone-of (s .head .«data_type»)) .0 (rest .1);
+        texts = texts-decided bytes s .0 (a .1 .1 .1 .0);
+        keys-differ = differ-decided (keys bytes (own-pairs s)) .0 (a .1 .1 .1 .1 .0);
+      }
 
   pub fits-to : Fits bytes s → first-broken (field-rules bytes s) ≡ None
   fits-to f =
-      intact (field-rules bytes s)
-        (and-from _ _ (count-decided (child-rule (s .head .«data_type»)) (s .head .children) .1 (f .count)) (le-leb _ _ (f .pairs)),
-         (le-leb _ _ (f .depth),
-          (and-from _ _ (and-from _ _ (id-decided (s .row) (s .head .«type_id») .1 (f .type-id)) (f .unit)) (zone-decided (zone-of (s .head .«data_type»)) .1 (f .zone)),
-           (texts-decided bytes s .1 (f .texts), (differ-decided (keys bytes (own-pairs s)) .1 (f .keys-differ), tt)))))
+      intact (field-rules bytes s) (
+        and-from _ _ (count-decided (child-rule (s .head .«data_type»)) (s .head .children) .1 (f .count)) (le-leb _ _ (f .pairs)),
+        (
+          le-leb _ _ (f .depth),
+          (
+            and-from _ _ (and-from _ _ (id-decided (s .row) (s .head .«type_id») .1 (f .type-id)) (f .unit)) (zone-decided (zone-of (s .head .«data_type»)) .1 (f .zone)),
+            (texts-decided bytes s .1 (f .texts), (differ-decided (keys bytes (own-pairs s)) .1 (f .keys-differ), tt)),
+          ),
+        ),
+      )

@@ -1,26 +1,24 @@
 -- A walk that comes to its end has gone over a row of fields, and a walk over such a row comes to its end.
 use mathlib.Core.Path.{_≡_, refl, sym, ap, subst, _∙_}
-use mathlib.Core.Bool.{Bool, true, false, cond}
 use mathlib.Core.List.{List, [], _∷_, _++_}
-use Prim.Native.Nat.{ℕ, zero, suc, _+_, _-_, _<_, _≤_}
+use Prim.Native.Nat.{ℕ, zero, suc, _+_, _-_, _≤_}
 use native.Mathlib.Omega.{arith}
-use lib.ListN.{length, take, drop}
+use lib.ListN.{length, drop}
 use Rattle.std.specs.declared.option.Option.{Option}
 use Rattle.std.specs.declared.option.Option.the-variants.{Some, None}
-use Rattle.std.specs.declared.result.Result.{Result}
 use Rattle.std.specs.declared.result.Result.the-variants.{Ok, Err}
 use Rattle.std.specs.shelf.Lists.{All}
-use Rattle.std.proofs.shelf.Lists.{append-assoc, append-nil, length-append, length-drop, drop-drop}
+use Rattle.std.proofs.shelf.Lists.{append-assoc, length-append, length-drop, drop-drop}
 use Rattle.std.proofs.shelf.Elements.{all-append}
 use Rattle.types.specs.declared.FieldRecord.{FieldRecord}
 use Rattle.types.specs.declared.Pair.{Pair}
 use Rattle.sheet.specs.Forests.{Forest, none, tree, width}
 use Rattle.rules.specs.declared.refusal.SheetRefusal.{SheetRefusal}
-use Rattle.rules.specs.declared.refusal.SheetRefusal.the-variants.{Counts, TooDeep}
+use Rattle.rules.specs.declared.refusal.SheetRefusal.the-variants.{TooDeep}
 use Rattle.rules.specs.Tables.{child-rule}
 use Rattle.rules.specs.Sites.{Row, plain, after, row-under, Site, pairs-in, sites}
 use Rattle.rules.specs.Verdict.{Ahead, Walked, unless, then, next, first-broken, field-rules, site-at, past-pairs, walk-children, walk-field, walk-row}
-use Rattle.rules.proofs.Decided.{Fits, fits-from}
+use Rattle.rules.proofs.Decided.{fits-from}
 
 -- The records of a row in preorder, and that each has as many children as it says.
 abbrev pub preorder : Forest FieldRecord → List FieldRecord
@@ -97,15 +95,17 @@ module _ (bytes : List ℕ) where
       let first = one row x start mid (t .1) in
       let more = grown-row d one n (after row (x .«type_id»)) mid b (t .2) in
       let used : mid .pairs ≡ drop (pairs-in (first .kids)) (drop (x .pairs) (a .pairs)) = first .used in
-      record { forest = tree x (first .kids) (more .forest)
-             ; wide = ap suc (more .wide)
-             ; right = (first .wide, first .right, more .right)
-             ; spelt = s .2 ∙ ap (λ l. x ∷ l) (first .spelt ∙ ap (λ l. preorder (first .kids) ++ l) (more .spelt) ∙ sym (append-assoc (preorder (first .kids)) (preorder (more .forest)) (b .records)))
-             ; used = more .used ∙ ap (drop (pairs-in (more .forest))) used
-                      ∙ drop-drop (pairs-in (more .forest)) (pairs-in (first .kids)) (drop (x .pairs) (a .pairs))
-                      ∙ drop-drop (pairs-in (first .kids) + pairs-in (more .forest)) (x .pairs) (a .pairs)
-             ; few = omega (arith, first .few, more .few, ap length used, length-drop (pairs-in (first .kids)) (drop (x .pairs) (a .pairs)), length-drop (x .pairs) (a .pairs))
-             ; sound = (first .here, all-append Sound _ _ (first .below) (subst (λ ps. All Sound (sites (33 - d) (after row (x .«type_id»)) ps (more .forest))) used (more .sound))) }
+      record {
+        forest = tree x (first .kids) (more .forest);
+        wide = ap suc (more .wide);
+        right = (first .wide, first .right, more .right);
+        spelt = s .2 ∙ ap (λ l. x ∷ l) (first .spelt ∙ ap (λ l. preorder (first .kids) ++ l) (more .spelt) ∙ sym (append-assoc (preorder (first .kids)) (preorder (more .forest)) (b .records)));
+        used = more .used ∙ ap (drop (pairs-in (more .forest))) used
+            ∙ drop-drop (pairs-in (more .forest)) (pairs-in (first .kids)) (drop (x .pairs) (a .pairs))
+            ∙ drop-drop (pairs-in (first .kids) + pairs-in (more .forest)) (x .pairs) (a .pairs);
+        few = omega (arith, first .few, more .few, ap length used, length-drop (pairs-in (first .kids)) (drop (x .pairs) (a .pairs)), length-drop (x .pairs) (a .pairs));
+        sound = (first .here, all-append Sound _ _ (first .below) (subst (λ ps. All Sound (sites (33 - d) (after row (x .«type_id»)) ps (more .forest))) used (more .sound)));
+      }
 
   grown-one : (d : ℕ) → d ≤ 32 → (row : Row) (x : FieldRecord) (a b : Ahead) → walk-field bytes d row x a ≡ Ok b → GrownOne d row x a b
   grown-one zero l row x a b h = never (unless-ok (first-broken (field-rules bytes (site-at zero row x a))) (Err TooDeep) b h .1)
@@ -114,14 +114,16 @@ module _ (bytes : List ℕ) where
       let m = grown-row d (grown-one d (omega arith)) (x .children) (row-under (child-rule (x .«data_type»))) (past-pairs x a) b (u .1) in
       let deeper : 33 - d ≡ suc (33 - suc d) = omega arith in
       let fits = fits-from bytes (site-at (suc d) row x a) (u .0) in
-      record { kids = m .forest
-             ; wide = m .wide
-             ; right = m .right
-             ; spelt = m .spelt
-             ; used = m .used
-             ; few = omega (arith, m .few, fits .pairs, length-drop (x .pairs) (a .pairs))
-             ; here = u .0
-             ; below = subst (λ k. All Sound (sites k (row-under (child-rule (x .«data_type»))) (drop (x .pairs) (a .pairs)) (m .forest))) deeper (m .sound) }
+      record {
+        kids = m .forest;
+        wide = m .wide;
+        right = m .right;
+        spelt = m .spelt;
+        used = m .used;
+        few = omega (arith, m .few, fits .pairs, length-drop (x .pairs) (a .pairs));
+        here = u .0;
+        below = subst (λ k. All Sound (sites k (row-under (child-rule (x .«data_type»))) (drop (x .pairs) (a .pairs)) (m .forest))) deeper (m .sound);
+      }
 
   -- A walk over all outermost fields.
   pub record Rows (xs : List FieldRecord) (ps : List Pair) (b : Ahead) : Type 0 where
@@ -144,14 +146,16 @@ module _ (bytes : List ℕ) where
       let size = ap length (first .spelt) in
       let more = grown-rows fuel (mid .records) (mid .pairs) b (omega (arith, size, length-append (preorder (first .kids)) (mid .records))) (t .2) in
       let used : mid .pairs ≡ drop (pairs-in (first .kids)) (drop (x .pairs) ps) = first .used in
-      record { forest = tree x (first .kids) (more .forest)
-             ; right = (first .wide, first .right, more .right)
-             ; spelt = ap (λ l. x ∷ l) (first .spelt ∙ ap (λ l. preorder (first .kids) ++ l) (more .spelt))
-             ; used = more .used ∙ ap (drop (pairs-in (more .forest))) used
-                      ∙ drop-drop (pairs-in (more .forest)) (pairs-in (first .kids)) (drop (x .pairs) ps)
-                      ∙ drop-drop (pairs-in (first .kids) + pairs-in (more .forest)) (x .pairs) ps
-             ; few = omega (arith, first .few, more .few, ap length used, length-drop (pairs-in (first .kids)) (drop (x .pairs) ps), length-drop (x .pairs) ps)
-             ; sound = (first .here, all-append Sound _ _ (first .below) (subst (λ qs. All Sound (sites 1 plain qs (more .forest))) used (more .sound))) }
+      record {
+        forest = tree x (first .kids) (more .forest);
+        right = (first .wide, first .right, more .right);
+        spelt = ap (λ l. x ∷ l) (first .spelt ∙ ap (λ l. preorder (first .kids) ++ l) (more .spelt));
+        used = more .used ∙ ap (drop (pairs-in (more .forest))) used
+            ∙ drop-drop (pairs-in (more .forest)) (pairs-in (first .kids)) (drop (x .pairs) ps)
+            ∙ drop-drop (pairs-in (first .kids) + pairs-in (more .forest)) (x .pairs) ps;
+        few = omega (arith, first .few, more .few, ap length used, length-drop (pairs-in (first .kids)) (drop (x .pairs) ps), length-drop (x .pairs) ps);
+        sound = (first .here, all-append Sound _ _ (first .below) (subst (λ qs. All Sound (sites 1 plain qs (more .forest))) used (more .sound)));
+      }
 
   -- The way back: over the field x and its children.
   walked-one : (d : ℕ) (row : Row) (x : FieldRecord) (kids : Forest FieldRecord) (ps : List Pair) (tail : List FieldRecord) → width kids ≡ x .children

@@ -1,7 +1,7 @@
 -- Records with counts that fit spell exactly one row of fields, so a lawful sheet holds exactly one schema.
-use mathlib.Core.Path.{_≡_, refl, sym, ap, subst, _∙_}
+use mathlib.Core.Path.{_≡_, refl, sym, ap, _∙_}
 use mathlib.Core.List.{List, [], _∷_, _++_, map}
-use Prim.Native.Nat.{ℕ, zero, suc, _+_}
+use Prim.Native.Nat.{ℕ, suc, _+_}
 use native.Mathlib.Omega.{arith}
 use lib.ListN.{take, drop}
 use Rattle.std.specs.declared.result.Result.{Result}
@@ -12,7 +12,7 @@ use Rattle.types.specs.declared.FieldRecord.{FieldRecord}
 use Rattle.types.specs.declared.Pair.{Pair}
 use Rattle.sheet.specs.Contents.{Content}
 use Rattle.sheet.specs.Forests.{Forest, none, tree, width, counted, mapped-forest}
-use Rattle.sheet.specs.Schemas.{Field, PairValue, Schema, Numbered, numbers-of, pair-value, listed, Holds, HoldsOne}
+use Rattle.sheet.specs.Schemas.{Field, PairValue, Schema, numbers-of, pair-value, listed, HoldsOne}
 use Rattle.rules.specs.Lawful.{with-count, Lawful}
 
 abbrev counts : {A : Type 0} → List (A × ℕ) → List ℕ
@@ -66,11 +66,13 @@ module _ {A B : Type 0} where
       let under = spelt-row k ls (counts (counted r) ++ rest) (tail ∙ ap (λ z. z ++ rest) (map-append (λ (p : A × ℕ). p .1) (counted k) (counted r)) ∙ append-assoc (counts (counted k)) (counts (counted r)) rest) in
       let beside = spelt-row r (under .more) rest (under .ends) in
       let both : (l .0, l .1) ≡ (l .0, width (under .forest)) = ap (λ n. (l .0, n)) (count ∙ sym (under .wide)) in
-      record { forest = tree (l .0) (under .forest) (beside .forest)
-             ; more = beside .more
-             ; wide = ap suc (beside .wide)
-             ; spelt = ap (λ p. p ∷ ls) both ∙ ap (λ z. (l .0, width (under .forest)) ∷ z) (under .spelt ∙ ap (λ z. counted (under .forest) ++ z) (beside .spelt) ∙ sym (append-assoc (counted (under .forest)) (counted (beside .forest)) (beside .more)))
-             ; ends = beside .ends }
+      record {
+        forest = tree (l .0) (under .forest) (beside .forest);
+        more = beside .more;
+        wide = ap suc (beside .wide);
+        spelt = ap (λ p. p ∷ ls) both ∙ ap (λ z. (l .0, width (under .forest)) ∷ z) (under .spelt ∙ ap (λ z. counted (under .forest) ++ z) (beside .spelt) ∙ sym (append-assoc (counted (under .forest)) (counted (beside .forest)) (beside .more)));
+        ends = beside .ends;
+      }
 
   pub spelt-forest : (f : Forest A) (ls : List (B × ℕ)) → counts ls ≡ counts (counted f) → (g : Forest B) × (counted g ≡ ls)
   spelt-forest f ls e =
@@ -89,12 +91,14 @@ holds-one c l =
     let lines = listed (c .bytes) (drop (c .own) (c .pairs)) (c .records) in
     let found = spelt-forest (l .fields) lines (same-counts (c .bytes) (drop (c .own) (c .pairs)) (c .records) ∙ ap counts (sym (l .records-used))) in
     let g = found .0 in
-    record { schema = record { fields = mapped-forest (λ x. x .field) g; pairs = map (pair-value (c .bytes)) (take (c .own) (c .pairs)) }
-           ; numbers = numbers-of g
-           ; holds = record { fields = g; preorder = found .1; same-fields = refl; same-pairs = refl; same-numbers = refl }
-           ; only = λ other others h.
-               let same = same-forest (h .fields) g (h .preorder ∙ sym (found .1)) in
-               (same-schema (h .same-fields ∙ ap (mapped-forest (λ x. x .field)) same) (h .same-pairs), h .same-numbers ∙ ap numbers-of same) }
+    record {
+      schema = record { fields = mapped-forest (λ x. x .field) g; pairs = map (pair-value (c .bytes)) (take (c .own) (c .pairs)) };
+      numbers = numbers-of g;
+      holds = record { fields = g; preorder = found .1; same-fields = refl; same-pairs = refl; same-numbers = refl };
+      only = λ other others h.
+          let same = same-forest (h .fields) g (h .preorder ∙ sym (found .1)) in
+          (same-schema (h .same-fields ∙ ap (mapped-forest (λ x. x .field)) same) (h .same-pairs), h .same-numbers ∙ ap numbers-of same);
+    }
 
 pub holds-at-ok : {T E : Type 0} (c : Content) (r : Result T E) → Cases r (λ _. Lawful c) (λ _. Lawful c → ⊥) → Cases r (λ _. HoldsOne c) (λ _. Unit {0})
 holds-at-ok c (Ok x) l = holds-one c l

@@ -1,10 +1,9 @@
 -- The verdict is none exactly when the rules hold.
 use mathlib.Core.Path.{_≡_, refl, sym, ap, subst, _∙_}
-use mathlib.Core.Bool.{Bool, true, false, cond}
+use mathlib.Core.Bool.{true}
 use mathlib.Core.List.{List, [], _∷_, _++_, map}
-use Prim.Native.Nat.{ℕ, zero, suc, _+_, _-_, _<_, _≤_}
+use Prim.Native.Nat.{ℕ, _+_, _-_, _<_, _≤_}
 use native.Mathlib.Omega.{arith}
-use lib.Dec.{leb, eqb}
 use lib.ListN.{length, take, drop}
 use Rattle.std.specs.Options.{Cases}
 use Rattle.std.specs.declared.option.Option.{Option}
@@ -13,23 +12,23 @@ use Rattle.std.specs.declared.result.Result.{Result}
 use Rattle.std.specs.declared.result.Result.the-variants.{Ok, Err}
 use Rattle.std.specs.Results as results
 use Rattle.std.specs.shelf.Lists.{All}
-use Rattle.std.proofs.shelf.Lists.{map-append, length-map, length-drop, append-assoc}
+use Rattle.std.proofs.shelf.Lists.{map-append, length-drop}
 use Rattle.std.proofs.shelf.Elements.{all-weaker, all-append}
 use Rattle.std.proofs.shelf.Tests.{and-parts, and-from, leb-true, le-leb, eqb-true, eq-eqb}
 use Rattle.types.specs.declared.FieldRecord.{FieldRecord}
 use Rattle.types.specs.declared.Pair.{Pair}
 use Rattle.types.specs.Types.{zone-of}
 use Rattle.sheet.specs.Contents.{Content}
-use Rattle.sheet.specs.Forests.{Forest, none, tree, width, counted}
+use Rattle.sheet.specs.Forests.{Forest, none, tree, counted}
 use Rattle.rules.specs.declared.refusal.SheetRefusal.{SheetRefusal}
 use Rattle.rules.specs.Tables.{child-rule, Count-fits, unit-fits}
-use Rattle.rules.specs.Tests.{max-depth, pair-fits, every, keys, all-differ}
+use Rattle.rules.specs.Tests.{max-depth, pair-fits, keys}
 use Rattle.rules.specs.Sites.{Row, plain, Site, own-pairs, pairs-in, sites, sites-of}
 use Rattle.rules.specs.Lawful.{with-count, Id-fits, Pair-fits, Texts-fit, Differ, Lawful}
-use Rattle.rules.specs.Verdict.{Ahead, Walked, Rules, first-broken, field-rules, within-limits, limit-rules, own-rules, walk-field, walk-row, walk-fields, closed, or-else, verdict}
+use Rattle.rules.specs.Verdict.{Ahead, Walked, first-broken, within-limits, limit-rules, own-rules, walk-field, walk-row, walk-fields, closed, or-else, verdict}
 use Rattle.rules.specs.Models.{told}
 use Rattle.rules.proofs.Decided.{Fits, fits-from, fits-to, unbroken, intact, every-decided, pair-decided, differ-decided}
-use Rattle.rules.proofs.Grown.{preorder, Right, Sound, Rows, grown-rows, walked-rows, all-left, all-right}
+use Rattle.rules.proofs.Grown.{preorder, Right, Sound, grown-rows, walked-rows, all-left, all-right}
 use Rattle.rules.proofs.VerdictSteps.{closes}
 
 -- Between a row and the records that spell it.
@@ -93,33 +92,36 @@ module _ (c : Content) where
       let left = eqb-true (length (end .0 .pairs)) 0 (own .1 .1 .0) in
       let all = fits-all (c .bytes) (sites-of c (rows .forest)) (rows .sound) in
       let ss = sites-of c (rows .forest) in
-      record { few-records = leb-true _ _ (few .0)
-             ; few-pairs = leb-true _ _ (few .1)
-             ; few-bytes = leb-true _ _ (bytes .1)
-             ; short-texts = leb-true _ _ (large .1)
-             ; fields = rows .forest
-             ; records-used = spell (rows .forest) (rows .right) ∙ ap (map with-count) (sym (rows .spelt))
-             ; pairs-used = omega (arith, leb-true _ _ (limits .1 .0), left, ap length (rows .used), rows .few, length-drop (pairs-in (rows .forest)) (drop (c .own) (c .pairs)), length-drop (c .own) (c .pairs))
-             ; child-counts = all-weaker (Fits (c .bytes)) _ (λ s f. f .count) ss all
-             ; shallow = all-weaker (Fits (c .bytes)) _ (λ s f. f .depth) ss all
-             ; type-ids = all-weaker (Fits (c .bytes)) _ (λ s f. f .type-id) ss all
-             ; units = all-weaker (Fits (c .bytes)) _ (λ s f. f .unit) ss all
-             ; zones = all-weaker (Fits (c .bytes)) _ (λ s f. f .zone) ss all
-             ; texts = all-weaker (Fits (c .bytes)) _ (λ s f. f .texts) ss all
-             ; own-texts = every-decided (Pair-fits (c .bytes)) (pair-fits (c .bytes)) (pair-decided (c .bytes)) (take (c .own) (c .pairs)) .0 (own .0)
-             ; keys-differ = all-weaker (Fits (c .bytes)) _ (λ s f. f .keys-differ) ss all
-             ; own-keys-differ = differ-decided (keys (c .bytes) (take (c .own) (c .pairs))) .0 (own .1 .0) }
+      record {
+        few-records = leb-true _ _ (few .0);
+        few-pairs = leb-true _ _ (few .1);
+        few-bytes = leb-true _ _ (bytes .1);
+        short-texts = leb-true _ _ (large .1);
+        fields = rows .forest;
+        records-used = spell (rows .forest) (rows .right) ∙ ap (map with-count) (sym (rows .spelt));
+        pairs-used = omega (arith, leb-true _ _ (limits .1 .0), left, ap length (rows .used), rows .few, length-drop (pairs-in (rows .forest)) (drop (c .own) (c .pairs)), length-drop (c .own) (c .pairs));
+        child-counts = all-weaker (Fits (c .bytes)) _ (λ s f. f .count) ss all;
+        shallow = all-weaker (Fits (c .bytes)) _ (λ s f. f .depth) ss all;
+        type-ids = all-weaker (Fits (c .bytes)) _ (λ s f. f .type-id) ss all;
+        units = all-weaker (Fits (c .bytes)) _ (λ s f. f .unit) ss all;
+        zones = all-weaker (Fits (c .bytes)) _ (λ s f. f .zone) ss all;
+        texts = all-weaker (Fits (c .bytes)) _ (λ s f. f .texts) ss all;
+        own-texts = every-decided (Pair-fits (c .bytes)) (pair-fits (c .bytes)) (pair-decided (c .bytes)) (take (c .own) (c .pairs)) .0 (own .0);
+        keys-differ = all-weaker (Fits (c .bytes)) _ (λ s f. f .keys-differ) ss all;
+        own-keys-differ = differ-decided (keys (c .bytes) (take (c .own) (c .pairs))) .0 (own .1 .0);
+      }
 
 -- Where all pairs of a row are there, each field finds its own.
 pairs-at : (f : Forest FieldRecord) (k : ℕ) (row : Row) (ps : List Pair) → pairs-in f ≤ length ps → All (λ s. s .head .pairs ≤ length (s .left)) (sites k row ps f)
 pairs-at none k row ps h = tt
 pairs-at (tree x kids rest) k row ps h =
     let a = length-drop (x .pairs) ps in
-    let b = length-drop (pairs-in kids) (drop (x .pairs) ps) in
-    (omega arith,
-     all-append (λ s. s .head .pairs ≤ length (s .left)) _ _
-       (pairs-at kids _ _ (drop (x .pairs) ps) (omega (arith, a, h)))
-       (pairs-at rest _ _ (drop (pairs-in kids) (drop (x .pairs) ps)) (omega (arith, a, b, h))))
+    let b = length-drop (pairs-in kids) (drop (x .pairs) ps) in (
+      omega arith,
+      all-append (λ s. s .head .pairs ≤ length (s .left)) _ _
+          (pairs-at kids _ _ (drop (x .pairs) ps) (omega (arith, a, h)))
+          (pairs-at rest _ _ (drop (pairs-in kids) (drop (x .pairs) ps)) (omega (arith, a, b, h))),
+    )
 
 -- All rules of each field together.
 module _ (bytes : List ℕ) where
@@ -134,9 +136,10 @@ module _ (bytes : List ℕ) where
       → All (λ s. Differ (keys bytes (own-pairs s))) ss
       → All (Sound bytes) ss
   together [] a b c d e f g h = tt
-  together (s ∷ ss) a b c d e f g h =
-      (fits-to bytes s (record { count = a .0; pairs = b .0; depth = c .0; type-id = d .0; unit = e .0; zone = f .0; texts = g .0; keys-differ = h .0 }),
-       together ss (a .1) (b .1) (c .1) (d .1) (e .1) (f .1) (g .1) (h .1))
+  together (s ∷ ss) a b c d e f g h = (
+    fits-to bytes s (record { count = a .0; pairs = b .0; depth = c .0; type-id = d .0; unit = e .0; zone = f .0; texts = g .0; keys-differ = h .0 }),
+    together ss (a .1) (b .1) (c .1) (d .1) (e .1) (f .1) (g .1) (h .1),
+  )
 
 module _ (c : Content) (l : Lawful c) where
   kept : within-limits c ≡ true
@@ -148,7 +151,7 @@ module _ (c : Content) (l : Lawful c) where
   sound : All (Sound (c .bytes)) (sites-of c (l .fields))
   sound =
       together (c .bytes) (sites-of c (l .fields)) (l .child-counts) (pairs-at (l .fields) 1 plain (drop (c .own) (c .pairs)) (omega (arith, after-own))) (l .shallow)
-        (l .type-ids) (l .units) (l .zones) (l .texts) (l .keys-differ)
+      (l .type-ids) (l .units) (l .zones) (l .texts) (l .keys-differ)
 
   ends : walk-fields c ≡ Ok (record { records = []; pairs = drop (pairs-in (l .fields)) (drop (c .own) (c .pairs)) })
   ends =
@@ -160,10 +163,13 @@ module _ (c : Content) (l : Lawful c) where
   lawful-to =
       let used = length-drop (pairs-in (l .fields)) (drop (c .own) (c .pairs)) in
       closes c (record { records = []; pairs = drop (pairs-in (l .fields)) (drop (c .own) (c .pairs)) }) kept (omega (arith, l .pairs-used)) ends
-      ∙ intact (own-rules (c .bytes) (take (c .own) (c .pairs)) (length (drop (pairs-in (l .fields)) (drop (c .own) (c .pairs)))))
-          (every-decided (Pair-fits (c .bytes)) (pair-fits (c .bytes)) (pair-decided (c .bytes)) (take (c .own) (c .pairs)) .1 (l .own-texts),
-           (differ-decided (keys (c .bytes) (take (c .own) (c .pairs))) .1 (l .own-keys-differ),
-            (eq-eqb _ _ (omega (arith, after-own, used)), tt)))
+      ∙ intact (own-rules (c .bytes) (take (c .own) (c .pairs)) (length (drop (pairs-in (l .fields)) (drop (c .own) (c .pairs))))) (
+        every-decided (Pair-fits (c .bytes)) (pair-fits (c .bytes)) (pair-decided (c .bytes)) (take (c .own) (c .pairs)) .1 (l .own-texts),
+        (
+          differ-decided (keys (c .bytes) (take (c .own) (c .pairs))) .1 (l .own-keys-differ),
+          (eq-eqb _ _ (omega (arith, after-own, used)), tt),
+        ),
+      )
 
 pub judged : {T : Type 0} (c : Content) (r : Result T SheetRefusal) → told r ≡ verdict c → results.Cases r (λ _. Lawful c) (λ _. Lawful c → ⊥)
 judged c (Ok x) e = lawful-from c (sym e)

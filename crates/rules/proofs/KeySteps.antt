@@ -13,7 +13,7 @@ use Rattle.std.specs.shelf.Maps.{nth}
 use Rattle.std.specs.shelf.Text.{sameBytes}
 use Rattle.std.proofs.shelf.Equals.{sameBytes-decides}
 use Rattle.std.proofs.shelf.Lists.{at-drop-more, at-drop-all, take-rest}
-use Rattle.std.proofs.shelf.Tests.{and-parts, and-from, and-left, and-right, leb-true, both-ways, cases-bool, not-from-true, not-from-false}
+use Rattle.std.proofs.shelf.Tests.{and-parts, and-from, and-left, and-right, leb-true, cases-bool, not-from-true, not-from-false}
 use Rattle.types.specs.declared.Text.{Text}
 use Rattle.types.specs.declared.Pair.{Pair}
 use Rattle.sheet.specs.Texts.{said, Within, Spells, NoneBefore, First}
@@ -32,7 +32,7 @@ module _ (bytes : List ℕ) where
     lacks-none (p ∷ ps) fit before =
         let parts = and-parts (pair-fits bytes p) (every (pair-fits bytes) ps) fit in
         let apart : sameBytes (said bytes (p .key)) key ≡ false =
-            ⊎-elim (λ e. absurd (before 0 p (omega arith) refl (key-within p (parts .0), sameBytes-decides (said bytes (p .key)) key .0 e))) (λ e. e) (cases-bool (sameBytes (said bytes (p .key)) key)) in
+        ⊎-elim (λ e. absurd (before 0 p (omega arith) refl (key-within p (parts .0), sameBytes-decides (said bytes (p .key)) key .0 e))) (λ e. e) (cases-bool (sameBytes (said bytes (p .key)) key)) in
         and-from _ _ (not-from-false _ apart) (lacks-none ps (parts .1) (λ k e h q s. before (suc k) e (omega arith) q s))
 
     lacks-found : (ps : List Pair) (j : ℕ) (p : Pair) → nth ps j ≡ Some p → said bytes (p .key) ≡ key → lacks key (keys bytes ps) ≡ false

@@ -1,13 +1,12 @@
 -- Steps of the check of one record.
-use mathlib.Core.Path.{_≡_, refl, sym, ap, _∙_}
-use mathlib.Core.Bool.{Bool, true, false, cond, _&&_}
-use mathlib.Core.List.{List, [], _∷_}
-use Prim.Native.Nat.{ℕ, _+_, _-_, _<_, _≤_}
+use mathlib.Core.Path.{_≡_, sym, ap, _∙_}
+use mathlib.Core.Bool.{Bool, true, false, _&&_}
+use mathlib.Core.List.{List, _∷_}
+use Prim.Native.Nat.{ℕ, _-_, _<_, _≤_}
 use native.Mathlib.Omega.{arith}
 use lib.Dec.{leb}
-use lib.ListN.{length, take, drop}
-use Rattle.std.specs.declared.option.Option.{Option}
-use Rattle.std.specs.declared.option.Option.the-variants.{Some, None}
+use lib.ListN.{length, take}
+use Rattle.std.specs.declared.option.Option.the-variants.{Some}
 use Rattle.std.proofs.shelf.Tests.{le-leb, lt-leb, leb-true, and-parts}
 use Rattle.std.specs.Results.{Cases}
 use Rattle.std.specs.declared.result.Result.{Result}
@@ -16,7 +15,7 @@ use Rattle.types.specs.declared.FieldRecord.{FieldRecord}
 use Rattle.rules.specs.declared.refusal.SheetRefusal.{SheetRefusal}
 use Rattle.rules.specs.declared.refusal.SheetRefusal.the-variants.{Counts, TooDeep, Parameter}
 use Rattle.rules.specs.Tables.{child-rule, count-fits}
-use Rattle.rules.specs.Sites.{Row, own-pairs}
+use Rattle.rules.specs.Sites.{Row}
 use Rattle.rules.specs.Verdict.{Ahead, Rules, first-broken, site-at, counts-fit, parameters-fit, field-rules, text-rules}
 
 pub at-ok : {T E : Type 0} (r : Result T E) (P : Type 0) → P → Cases r (λ _. P) (λ _. Unit {0})

@@ -1,14 +1,13 @@
 -- Steps of the tests of texts.
 use mathlib.Core.Path.{_≡_, refl, sym, ap, _∙_}
 use mathlib.Core.Bool.{Bool, true, false, _&&_}
-use mathlib.Core.List.{List, [], _∷_}
+use mathlib.Core.List.{List}
 use Prim.Native.Nat.{ℕ, _+_, _<_, _≤_}
-use lib.Dec.{leb}
-use lib.ListN.{length, take, drop, getD}
+use lib.ListN.{length, drop, getD}
 use Rattle.std.specs.Orderings.{Decides}
 use Rattle.std.specs.Text.{Utf8}
 use Rattle.std.proofs.shelf.Lists.{at-drop-more, at-drop-all}
-use Rattle.std.proofs.shelf.Tests.{le-leb, lt-leb, both-ways}
+use Rattle.std.proofs.shelf.Tests.{le-leb, lt-leb}
 use Rattle.types.specs.declared.Text.{Text}
 use Rattle.sheet.specs.Texts.{said}
 use Rattle.rules.specs.Tests.{is-utf8, text-fits, every}

@@ -1,7 +1,6 @@
 -- The test of UTF-8 that computes decides what UTF-8 is.
-use mathlib.Core.Path.{_≡_, refl, sym, ap, _∙_}
+use mathlib.Core.Path.{refl}
 use mathlib.Core.List.{List, [], _∷_}
-use mathlib.Core.Bool.{Bool, true, false, _&&_}
 use Prim.Native.Nat.{ℕ}
 use lib.Utf8.{scalars, encodes, encode}
 use Rattle.std.specs.Orderings.{Decides}
@@ -13,10 +12,11 @@ use Rattle.std.proofs.shelf.Tests.{and-parts, and-from, both-ways}
 use Rattle.rules.specs.Tests.{is-utf8}
 
 pub utf8-decided : (bs : List ℕ) → Decides (is-utf8 bs) (Utf8 bs)
-utf8-decided bs =
-    (λ e. let p = and-parts (scalars (decodes bs)) (sameBytes (encodes (decodes bs)) bs) e in
-          (decodes bs, (p .0, sameBytes-decides (encodes (decodes bs)) bs .0 (p .1))),
-     λ u. and-from _ _ (scalars-decodes bs u) (sameBytes-decides (encodes (decodes bs)) bs .1 (encodes-decodes bs u)))
+utf8-decided bs = (
+  λ e. let p = and-parts (scalars (decodes bs)) (sameBytes (encodes (decodes bs)) bs) e in
+      (decodes bs, (p .0, sameBytes-decides (encodes (decodes bs)) bs .0 (p .1))),
+  λ u. and-from _ _ (scalars-decodes bs u) (sameBytes-decides (encodes (decodes bs)) bs .1 (encodes-decodes bs u)),
+)
 
 -- A surrogate, an overlong form and a number past the last are not UTF-8; the last character is.
 no-surrogate : Utf8 (0xED ∷ 0xA0 ∷ 0x80 ∷ []) → ⊥

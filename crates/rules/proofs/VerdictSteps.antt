@@ -1,17 +1,13 @@
 -- The verdict by its parts.
-use mathlib.Core.Path.{_≡_, refl, sym, ap, _∙_}
-use mathlib.Core.Bool.{Bool, true, false, cond}
-use mathlib.Core.List.{List, [], _∷_}
-use Prim.Native.Nat.{ℕ, _≤_}
+use mathlib.Core.Path.{_≡_, ap, _∙_}
+use mathlib.Core.Bool.{true, cond}
+use Prim.Native.Nat.{_≤_}
 use lib.Dec.{leb}
 use lib.ListN.{length, take}
-use Rattle.std.specs.declared.option.Option.{Option}
 use Rattle.std.specs.declared.option.Option.the-variants.{Some, None}
-use Rattle.std.specs.declared.result.Result.the-variants.{Ok, Err}
+use Rattle.std.specs.declared.result.Result.the-variants.{Ok}
 use Rattle.std.proofs.shelf.Tests.{le-leb}
-use Rattle.types.specs.declared.Pair.{Pair}
 use Rattle.sheet.specs.Contents.{Content}
-use Rattle.rules.specs.declared.refusal.SheetRefusal.{SheetRefusal}
 use Rattle.rules.specs.declared.refusal.SheetRefusal.the-variants.{TooLarge, Counts}
 use Rattle.rules.specs.Verdict.{Ahead, first-broken, within-limits, limit-rules, own-rules, walk-fields, closed, or-else, verdict}
 

@@ -1,10 +1,9 @@
 -- Steps of the walk over the records.
-use mathlib.Core.Path.{_≡_, refl, sym, ap, _∙_}
+use mathlib.Core.Path.{_≡_, refl, ap, _∙_}
 use mathlib.Core.List.{List, [], _∷_}
 use Prim.Native.Nat.{ℕ, zero, suc, _+_, _-_, _<_, _≤_}
 use native.Mathlib.Omega.{arith}
-use lib.ListN.{length, drop}
-use Rattle.std.specs.declared.option.Option.{Option}
+use lib.ListN.{drop}
 use Rattle.std.specs.declared.option.Option.the-variants.{Some, None}
 use Rattle.std.specs.declared.result.Result.the-variants.{Ok, Err}
 use Rattle.std.specs.shelf.Maps.{nth}
@@ -31,7 +30,7 @@ module _ (c : Content) (field : Row → FieldRecord → Ahead → Walked) where
 
     pub one-on : (x : FieldRecord) → k < n → nth (c .records) (at .«record») ≡ Some x
         → walk-children field (n - k) row (ahead c at)
-          ≡ then (field row x (record { records = drop (at .«record» + 1) (c .records); pairs = drop (at .pair) (c .pairs) })) (walk-children field (n - (k + 1)) (after row (x .«type_id»)))
+        ≡ then (field row x (record { records = drop (at .«record» + 1) (c .records); pairs = drop (at .pair) (c .pairs) })) (walk-children field (n - (k + 1)) (after row (x .«type_id»)))
     one-on x h e =
         let more : n - k ≡ suc (n - (k + 1)) = omega arith in
         ap (λ m. walk-children field m row (ahead c at)) more
@@ -61,7 +60,7 @@ module _ (c : Content) (field : Row → FieldRecord → Ahead → Walked) where
 
     pub row-one-on : (x : FieldRecord) → k < n → nth (c .records) (at .«record») ≡ Some x
         → walk-row field (n - k) (drop (at .«record») (c .records)) (drop (at .pair) (c .pairs))
-          ≡ then (field plain x (record { records = drop (at .«record» + 1) (c .records); pairs = drop (at .pair) (c .pairs) })) (λ b. walk-row field (n - (k + 1)) (b .records) (b .pairs))
+        ≡ then (field plain x (record { records = drop (at .«record» + 1) (c .records); pairs = drop (at .pair) (c .pairs) })) (λ b. walk-row field (n - (k + 1)) (b .records) (b .pairs))
     row-one-on x h e =
         let more : n - k ≡ suc (n - (k + 1)) = omega arith in
         ap (λ m. walk-row field m (drop (at .«record») (c .records)) (drop (at .pair) (c .pairs))) more

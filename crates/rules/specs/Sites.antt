@@ -50,7 +50,7 @@ sites depth row ps none = []
 sites depth row ps (tree x kids rest) =
     record { head = x; depth = depth; row = row; left = ps }
     ∷ (sites (suc depth) (row-under (child-rule (x .«data_type»))) (drop (x .pairs) ps) kids
-       ++ sites depth (after row (x .«type_id»)) (drop (pairs-in kids) (drop (x .pairs) ps)) rest)
+    ++ sites depth (after row (x .«type_id»)) (drop (pairs-in kids) (drop (x .pairs) ps)) rest)
 
 -- The fields of a sheet where they stand; those in the outermost row have depth 1.
 abbrev pub sites-of : Content → Forest FieldRecord → List Site

@@ -10,7 +10,6 @@ ghost use Rattle.types.specs.Types.{zone-of};
 ghost use Rattle.sheet.specs.Contents.{Content, content};
 ghost use Rattle.rules.specs.Tests.{record-length, pair-length, zone-length, summed-lengths};
 ghost use Rattle.rules.specs.Verdict.{within-limits};
-
 use crate::tables::zone_of;
 use sheet::Sheet;
 use types::FieldRecord;
@@ -18,7 +17,9 @@ use types::Pair;
 
 /// The limits on used records, pairs and text bytes; the last one also limits the lengths of all texts together.
 pub const MAX_RECORDS: usize = 1024;
+
 pub const MAX_PAIRS: usize = 1024;
+
 pub const MAX_BYTES: usize = 32768;
 
 // The lengths of a record's texts.
@@ -70,7 +71,10 @@ fn pair_lengths(pairs: &[Pair]) -> usize
 pub fn within_limits(sheet: &Sheet) -> bool
     ensures { λ r. ⌜ r ≡ within-limits (content (now (sheet .entry))) ⌝ }
 {
-    if sheet.records.len() > MAX_RECORDS || sheet.pairs.len() > MAX_PAIRS || sheet.text.len() > MAX_BYTES {
+    if sheet.records.len() > MAX_RECORDS
+        || sheet.pairs.len() > MAX_PAIRS
+        || sheet.text.len() > MAX_BYTES
+    {
         return false;
     }
     record_lengths(sheet.records.as_slice()) + pair_lengths(sheet.pairs.as_slice()) <= MAX_BYTES

@@ -8,7 +8,6 @@ ghost use lib.ListN.{length, take, drop};
 ghost use Rattle.rules.specs.Models.{row-of, ids-of, Has-room};
 ghost use Rattle.rules.specs.Sites.{Row, plain, in-union, row-under, after};
 ghost use Rattle.rules.specs.Tests.{among, id-fits};
-
 use crate::tables::ChildRule;
 
 /// The largest type id of a union's child.
@@ -39,7 +38,11 @@ impl Siblings {
     pub fn outermost() -> Siblings
         ensures { λ r. ⌜ row-of r ≡ plain ⌝ }
     {
-        Siblings { in_union: false, ids: [0; 128], len: 0 }
+        Siblings {
+            in_union: false,
+            ids: [0; 128],
+            len: 0,
+        }
     }
 
     /// The row of the children under a field, before the first of them.
@@ -50,7 +53,11 @@ impl Siblings {
             ChildRule::OfUnion => true,
             _ => false,
         };
-        Siblings { in_union, ids: [0; 128], len: 0 }
+        Siblings {
+            in_union,
+            ids: [0; 128],
+            len: 0,
+        }
     }
 
     // The type ids noted so far.

@@ -5,7 +5,6 @@ ghost use Prim.Native.Nat.{ℕ, _≤_};
 ghost use lib.Dec.{eqb, leb};
 ghost use Rattle.types.specs.Types.{zone-of};
 ghost use Rattle.rules.specs.Tables.{child-rule, count-fits, unit-fits};
-
 use types::DataType;
 use types::Text;
 use types::TimeUnit;

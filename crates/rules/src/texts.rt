@@ -8,11 +8,10 @@ ghost use Rattle.std.specs.Orderings.{Decides};
 ghost use Rattle.std.specs.Text.{Utf8 as Utf8Text};
 ghost use Rattle.types.specs.Types.{zone-of};
 ghost use Rattle.rules.specs.Tests.{is-utf8, text-fits, zone-text-fits, pair-fits, every, texts-fit, keys, lacks, all-differ};
-
 use crate::tables::zone_of;
+use sheet::PairHasText;
 use sheet::first_with_text;
 use sheet::text_bytes;
-use sheet::PairHasText;
 use std::str::from_utf8;
 use types::FieldRecord;
 use types::Pair;
@@ -70,7 +69,9 @@ pub fn pairs_fit(bytes: &[u8], pairs: &[Pair]) -> bool
 pub fn texts_fit(bytes: &[u8], head: FieldRecord, pairs: &[Pair]) -> bool
     ensures { λ r. ⌜ r ≡ texts-fit (now (bytes .entry)) head (now (pairs .entry)) ⌝ }
 {
-    text_fits(bytes, head.name) && zone_text_fits(bytes, zone_of(head.data_type)) && pairs_fit(bytes, pairs)
+    text_fits(bytes, head.name)
+        && zone_text_fits(bytes, zone_of(head.data_type))
+        && pairs_fit(bytes, pairs)
 }
 
 // Whether no key of the pairs is the same bytes.

@@ -15,7 +15,6 @@ ghost use Rattle.types.specs.Types.{zone-of};
 ghost use Rattle.rules.specs.Verdict.{first-broken, field-rules, text-rules, own-rules, site-at, walk-children, walk-field, walk-fields, walk-row, verdict};
 ghost use Rattle.rules.specs.Models.{row-of, ahead, walked, told, Few};
 ghost use Rattle.rules.specs.Lawful.{Lawful};
-
 use crate::limits::within_limits;
 use crate::refusal::SheetRefusal;
 use crate::siblings::Siblings;
@@ -79,7 +78,13 @@ fn parameters_fit(row: &Siblings, head: FieldRecord) -> bool
 }
 
 // The rules of one record where it stands, with `room` levels left for it. At Ok they leave room for its children and its pairs.
-fn check_record(sheet: &Sheet, row: &Siblings, head: FieldRecord, at: Place, room: u32) -> Result<(), SheetRefusal>
+fn check_record(
+    sheet: &Sheet,
+    row: &Siblings,
+    head: FieldRecord,
+    at: Place,
+    room: u32,
+) -> Result<(), SheetRefusal>
     requires { ⌜ at .pair ≤ length (content (now sheet) .pairs) ⌝ }
     ensures rules { λ r. ⌜ told r ≡ first-broken (field-rules (content (now (sheet .entry)) .bytes) (site-at room (row-of (now (row .entry))) head (ahead (content (now (sheet .entry))) at))) ⌝ }
     ensures fits { λ r. ⌜ Cases r (λ _. (0 < room) × (at .pair + head .pairs ≤ length (content (now (sheet .entry)) .pairs)) × (count-fits (child-rule (head .«data_type»)) (head .children) ≡ true)) (λ _. Unit {0}) ⌝ }
@@ -100,19 +105,33 @@ fn check_record(sheet: &Sheet, row: &Siblings, head: FieldRecord, at: Place, roo
 }
 
 // A field whose record was read, and all that is nested in it. `from` is past its record and at its first pair.
-fn check_field(sheet: &Sheet, row: &Siblings, head: FieldRecord, from: Place, room: u32) -> Result<Place, SheetRefusal>
+fn check_field(
+    sheet: &Sheet,
+    row: &Siblings,
+    head: FieldRecord,
+    from: Place,
+    room: u32,
+) -> Result<Place, SheetRefusal>
     requires few { ⌜ Few (content (now sheet)) ⌝ }
     requires inside { ⌜ from .pair ≤ length (content (now sheet) .pairs) ⌝ }
     ensures walk { λ r. ⌜ walked (content (now (sheet .entry))) r ≡ walk-field (content (now (sheet .entry)) .bytes) room (row-of (now (row .entry))) head (ahead (content (now (sheet .entry))) from) ⌝ }
     ensures inside { λ r. ⌜ Cases r (λ p. p .pair ≤ length (content (now (sheet .entry)) .pairs)) (λ _. Unit {0}) ⌝ }
 {
     check_record(sheet, row, head, from, room)?;
-    let below = Place { record: from.record, pair: from.pair + head.pairs as usize };
+    let below = Place {
+        record: from.record,
+        pair: from.pair + head.pairs as usize,
+    };
     check_type(sheet, head, below, room - 1)
 }
 
 // The children that a field's type asks for, with `room` levels left for them.
-fn check_type(sheet: &Sheet, head: FieldRecord, from: Place, room: u32) -> Result<Place, SheetRefusal>
+fn check_type(
+    sheet: &Sheet,
+    head: FieldRecord,
+    from: Place,
+    room: u32,
+) -> Result<Place, SheetRefusal>
     requires few { ⌜ Few (content (now sheet)) ⌝ }
     requires inside { ⌜ from .pair ≤ length (content (now sheet) .pairs) ⌝ }
     requires counts { ⌜ count-fits (child-rule (head .«data_type»)) (head .children) ≡ true ⌝ }
@@ -126,7 +145,16 @@ fn check_type(sheet: &Sheet, head: FieldRecord, from: Place, room: u32) -> Resul
         let Some(child) = sheet.records.get(at.record) else {
             return Err(SheetRefusal::Counts);
         };
-        at = check_field(sheet, &row, child, Place { record: at.record + 1, pair: at.pair }, room)?;
+        at = check_field(
+            sheet,
+            &row,
+            child,
+            Place {
+                record: at.record + 1,
+                pair: at.pair,
+            },
+            room,
+        )?;
         row.note(child.type_id);
     }
     Ok(at)
@@ -141,12 +169,24 @@ fn check_fields(sheet: &Sheet, own: usize) -> Result<Place, SheetRefusal>
 {
     let row = Siblings::outermost();
     let n = sheet.records.len();
-    let mut at = Place { record: 0, pair: own };
+    let mut at = Place {
+        record: 0,
+        pair: own,
+    };
     for k in 0..n {
         let Some(head) = sheet.records.get(at.record) else {
             return Ok(at);
         };
-        at = check_field(sheet, &row, head, Place { record: at.record + 1, pair: at.pair }, MAX_DEPTH)?;
+        at = check_field(
+            sheet,
+            &row,
+            head,
+            Place {
+                record: at.record + 1,
+                pair: at.pair,
+            },
+            MAX_DEPTH,
+        )?;
     }
     Ok(at)
 }
@@ -180,7 +220,11 @@ fn judge(sheet: &Sheet) -> Result<(), SheetRefusal>
         return Err(SheetRefusal::Counts);
     }
     let end = check_fields(sheet, own)?;
-    check_own_pairs(sheet.text.as_slice(), &pairs[0..own], pairs.len() - end.pair)
+    check_own_pairs(
+        sheet.text.as_slice(),
+        &pairs[0..own],
+        pairs.len() - end.pair,
+    )
 }
 
 /// Looks at a sheet by every rule, in the order of the verdict, and tells the first that is broken.

@@ -1,8 +1,8 @@
 -- Steps over the lines of a sheet, and what they say of the schema that it holds.
 use mathlib.Core.Path.{_≡_, refl, sym, ap, _∙_}
-use mathlib.Core.Bool.{Bool, true, false}
+use mathlib.Core.Bool.{Bool}
 use mathlib.Core.List.{List, [], _∷_, _++_, map}
-use Prim.Native.Nat.{ℕ, zero, suc, _+_, _<_, _≤_}
+use Prim.Native.Nat.{ℕ, zero, suc, _+_, _≤_}
 use native.Mathlib.Omega.{arith}
 use lib.IntN.{ℤ}
 use lib.ListN.{length, take, drop}
@@ -15,7 +15,7 @@ use Rattle.types.specs.declared.Pair.{Pair}
 use Rattle.types.specs.declared.FieldRecord.{FieldRecord}
 use Rattle.sheet.specs.Contents.{Content}
 use Rattle.sheet.specs.Forests.{Forest, none, tree, width, counted, mapped-forest}
-use Rattle.sheet.specs.Schemas.{Field, PairValue, Schema, Numbered, pair-value, field-value, listed, Holds}
+use Rattle.sheet.specs.Schemas.{Field, PairValue, Schema, Numbered, field-value, listed, Holds}
 use Rattle.rules.proofs.Holding.{same-forest}
 use Rattle.schema.specs.Lines.{line, lines, lines-of, own-of}
 use Rattle.schema.specs.Answers.{Tells-alike}
@@ -57,7 +57,7 @@ counted-mapped (tree x kids rest) =
     let fs = counted (mapped-forest (λ (y : Numbered). y .field) rest) in
     ap (λ n. (x .field, n) ∷ (counted (mapped-forest (λ (y : Numbered). y .field) kids) ++ fs)) (width-mapped kids)
     ∙ ap (λ l. (x .field, width kids) ∷ l)
-        (ap (λ l. l ++ fs) (counted-mapped kids) ∙ ap (λ l. map bare (counted kids) ++ l) (counted-mapped rest) ∙ sym (map-append bare (counted kids) (counted rest)))
+    (ap (λ l. l ++ fs) (counted-mapped kids) ∙ ap (λ l. map bare (counted kids) ++ l) (counted-mapped rest) ∙ sym (map-append bare (counted kids) (counted rest)))
 
 bare-listed : (bytes : List ℕ) (ps : List Pair) (xs : List FieldRecord) → map bare (listed bytes ps xs) ≡ lines bytes ps xs
 bare-listed bytes ps [] = refl
@@ -77,7 +77,8 @@ schema-from s t f p = both-parts f p
 pub tells : (a b : Content) (r : Bool) → Decides r ((own-of a ≡ own-of b) × (lines-of a ≡ lines-of b)) → Tells-alike a b r
 tells a b r d s t m n h k =
     let f = fields-are-lines a s m h in
-    let g = fields-are-lines b t n k in
-    (λ e. let both = d .0 e in
+    let g = fields-are-lines b t n k in (
+      λ e. let both = d .0 e in
           schema-from s t (same-forest (s .fields) (t .fields) (f ∙ both .1 ∙ sym g)) (h .same-pairs ∙ both .0 ∙ sym (k .same-pairs)),
-     λ e. d .1 (sym (h .same-pairs) ∙ ap (λ x. x .pairs) e ∙ k .same-pairs, sym f ∙ ap (λ x. counted (x .fields)) e ∙ g))
+      λ e. d .1 (sym (h .same-pairs) ∙ ap (λ x. x .pairs) e ∙ k .same-pairs, sym f ∙ ap (λ x. counted (x .fields)) e ∙ g),
+    )

@@ -10,7 +10,7 @@ use Rattle.std.specs.declared.option.Option.the-variants.{Some, None}
 use Rattle.std.proofs.shelf.Lists.{append-assoc, append-nil, length-append, length-drop, drop-drop}
 use Rattle.roll.proofs.Parted.{drop-at-none, drop-at-some}
 use Rattle.types.specs.declared.FieldRecord.{FieldRecord}
-use Rattle.schema.specs.Numbers.{own-number, Told, around, numbers-row, numbers-at}
+use Rattle.schema.specs.Numbers.{Told, around, numbers-row, numbers-at}
 
 -- A list with its free places behind it, on the way from one to another: `rest` is still to be added of `all`.
 abbrev pub Progress : List ℤ → List ℤ → List ℤ → List ℤ → List ℤ → List ℤ → Type 0
@@ -36,12 +36,13 @@ module _ (start free₀ all : List ℤ) where
         → Progress start free₀ items₂ free₂ more all
     one-step nested own more items₁ free₁ items₂ free₂ r a b c d =
         let size : length items₂ ≡ (length items + length nested) + length own =
-            ap length c ∙ length-append items₁ own ∙ ap (λ n. n + length own) (ap length a ∙ length-append items nested) in
-        let gone : ((length items - length start) + length nested) + length own ≡ length items₂ - length start = omega (arith, size, p .1) in
-        (ap (λ l. l ++ more) (c ∙ ap (λ l. l ++ own) a) ∙ append-assoc (items ++ nested) own more ∙ append-assoc items nested (own ++ more) ∙ ap (λ l. items ++ l) (sym r) ∙ p .0,
-         omega (arith, size, p .1),
-         d ∙ ap (drop (length own)) (b ∙ ap (drop (length nested)) (p .2) ∙ drop-drop (length nested) (length items - length start) free₀)
-         ∙ drop-drop (length own) ((length items - length start) + length nested) free₀ ∙ ap (λ n. drop n free₀) gone)
+        ap length c ∙ length-append items₁ own ∙ ap (λ n. n + length own) (ap length a ∙ length-append items nested) in
+        let gone : ((length items - length start) + length nested) + length own ≡ length items₂ - length start = omega (arith, size, p .1) in (
+          ap (λ l. l ++ more) (c ∙ ap (λ l. l ++ own) a) ∙ append-assoc (items ++ nested) own more ∙ append-assoc items nested (own ++ more) ∙ ap (λ l. items ++ l) (sym r) ∙ p .0,
+          omega (arith, size, p .1),
+          d ∙ ap (drop (length own)) (b ∙ ap (drop (length nested)) (p .2) ∙ drop-drop (length nested) (length items - length start) free₀)
+              ∙ drop-drop (length own) ((length items - length start) + length nested) free₀ ∙ ap (λ n. drop n free₀) gone,
+        )
 
     pub all-laid : rest ≡ [] → (items ≡ start ++ all) × (free ≡ drop (length all) free₀)
     all-laid e =
@@ -85,8 +86,8 @@ module _ (start free₀ items free : List ℤ) (xs : List FieldRecord) (room n k
   pub loop-ends : numbers-row (numbers-at (room - 1)) (n - k) (drop at xs) ≡ record { numbers = []; records = drop at xs }
       → numbers-row (numbers-at (room - 1)) (n - k) (drop at xs) .records ≡ numbers-row (numbers-at (room - 1)) n (drop from xs) .records
       → (items ≡ start ++ numbers-at room n (drop from xs) .numbers)
-        × (free ≡ drop (length (numbers-at room n (drop from xs) .numbers)) free₀)
-        × (drop at xs ≡ numbers-at room n (drop from xs) .records)
+      × (free ≡ drop (length (numbers-at room n (drop from xs) .numbers)) free₀)
+      × (drop at xs ≡ numbers-at room n (drop from xs) .records)
   loop-ends e behind =
       let all = all-laid start free₀ (numbers-row (numbers-at (room - 1)) n (drop from xs) .numbers) items free _ p (ap (λ t. t .numbers) e) in
       let same = sym (at-room room n (drop from xs) deep) in

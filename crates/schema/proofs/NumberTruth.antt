@@ -4,12 +4,12 @@ use mathlib.Core.List.{List, [], _∷_, _++_, map}
 use Prim.Native.Nat.{ℕ, zero, suc, _+_, _-_, _<_, _≤_}
 use native.Mathlib.Omega.{arith}
 use lib.IntN.{ℤ}
-use lib.ListN.{length, take, drop}
+use lib.ListN.{length, drop}
 use Rattle.std.specs.Options.{mapped}
 use Rattle.std.specs.Vec.{listOf}
 use Rattle.std.specs.declared.option.Option.{Option}
-use Rattle.std.specs.shelf.Lists.{All, sumBy}
-use Rattle.std.proofs.shelf.Lists.{append-assoc, append-nil, length-append, map-append}
+use Rattle.std.specs.shelf.Lists.{All}
+use Rattle.std.proofs.shelf.Lists.{append-assoc, length-append, map-append}
 use Rattle.std.proofs.shelf.Sums.{sumBy-cons, sumBy-append}
 use Rattle.types.specs.declared.Pair.{Pair}
 use Rattle.types.specs.declared.FieldRecord.{FieldRecord}
@@ -17,14 +17,14 @@ use Rattle.sheet.specs.Contents.{Content}
 use Rattle.sheet.specs.Forests.{Forest, none, tree, width, counted, mapped-forest}
 use Rattle.sheet.specs.Schemas.{Schema, Numbered, numbers-of, listed, Holds}
 use Rattle.rules.specs.Tables.{child-rule}
-use Rattle.rules.specs.Sites.{Row, plain, after, row-under, Site, pairs-in, sites, sites-of}
+use Rattle.rules.specs.Sites.{Row, plain, after, row-under, pairs-in, sites}
 use Rattle.rules.specs.Lawful.{with-count, Lawful}
 use Rattle.rules.proofs.Grown.{preorder, Right, all-left, all-right}
 use Rattle.rules.proofs.Judged.{spelt-by, right-by}
 use Rattle.rules.proofs.Holding.{same-forest, holds-one}
 use Rattle.schema.specs.declared.numbers.NumbersRefusal.the-variants.{Full}
 use Rattle.schema.specs.Answers.{Laid, Why-not}
-use Rattle.schema.specs.Numbers.{own-number, how-many, Told, around, numbers-row, numbers-at}
+use Rattle.schema.specs.Numbers.{own-number, how-many, around, numbers-row, numbers-at}
 
 abbrev own : FieldRecord → Option ℤ
 own x = mapped (λ d. d .number) (x .dictionary)
@@ -52,7 +52,7 @@ numbered (tree x kids rest) (suc d) k row ps tail h right all =
     let nested = numbered kids d (suc k) under qs (preorder rest ++ tail) (omega arith) (right .1) deep in
     let later = numbered rest (suc d) k (after row (x .«type_id»)) (drop (pairs-in kids) qs) tail h (right .2) wide in
     let first : numbers-at d (x .children) ((preorder kids ++ preorder rest) ++ tail) ≡ record { numbers = numbers-in kids; records = preorder rest ++ tail } =
-        ap (λ n. numbers-at d n ((preorder kids ++ preorder rest) ++ tail)) (sym (right .0)) ∙ ap (numbers-at d (width kids)) (append-assoc (preorder kids) (preorder rest) tail) ∙ nested in
+    ap (λ n. numbers-at d n ((preorder kids ++ preorder rest) ++ tail)) (sym (right .0)) ∙ ap (numbers-at d (width kids)) (append-assoc (preorder kids) (preorder rest) tail) ∙ nested in
     ap (λ t. around t x (numbers-row (numbers-at d) (width rest))) first
     ∙ ap (λ t. record { numbers = numbers-in kids ++ (own-number x ++ t .numbers); records = t .records }) later
 
@@ -70,7 +70,7 @@ numbered-row (tree x kids rest) (suc m) ps h right all =
     let nested = numbered kids 31 2 under qs (preorder rest) (omega arith) (right .1) deep in
     let later = numbered-row rest m (drop (pairs-in kids) qs) (omega (arith, length-append (preorder kids) (preorder rest))) (right .2) wide in
     let first : numbers-at 31 (x .children) (preorder kids ++ preorder rest) ≡ record { numbers = numbers-in kids; records = preorder rest } =
-        ap (λ n. numbers-at 31 n (preorder kids ++ preorder rest)) (sym (right .0)) ∙ nested in
+    ap (λ n. numbers-at 31 n (preorder kids ++ preorder rest)) (sym (right .0)) ∙ nested in
     ap (λ t. around t x (numbers-row (numbers-at 31) m)) first
     ∙ ap (λ t. record { numbers = numbers-in kids ++ (own-number x ++ t .numbers); records = t .records }) later
 
@@ -85,8 +85,8 @@ module _ {A B : Type 0} (h : A → B) where
   counted-mapped (tree x kids rest) =
       ap (λ n. (h x, n) ∷ (counted (mapped-forest h kids) ++ counted (mapped-forest h rest))) (width-mapped kids)
       ∙ ap (λ l. (h x, width kids) ∷ l)
-          (ap (λ l. l ++ counted (mapped-forest h rest)) (counted-mapped kids) ∙ ap (λ l. map (λ (p : A × ℕ). (h (p .0), p .1)) (counted kids) ++ l) (counted-mapped rest)
-           ∙ sym (map-append (λ (p : A × ℕ). (h (p .0), p .1)) (counted kids) (counted rest)))
+      (ap (λ l. l ++ counted (mapped-forest h rest)) (counted-mapped kids) ∙ ap (λ l. map (λ (p : A × ℕ). (h (p .0), p .1)) (counted kids) ++ l) (counted-mapped rest)
+      ∙ sym (map-append (λ (p : A × ℕ). (h (p .0), p .1)) (counted kids) (counted rest)))
 
 gathered-numbers : (g : Forest Numbered) → numbers-of g ≡ gathered (mapped-forest (λ x. x .number) g)
 gathered-numbers none = refl
@@ -108,9 +108,9 @@ module _ (c : Content) (l : Lawful c) where
   pub held-numbers : (s : Schema) (n : List ℤ) → Holds c s n → numbers-in (l .fields) ≡ n
   held-numbers s n h =
       let shape : mapped-forest own (l .fields) ≡ mapped-forest (λ x. x .number) (h .fields) =
-          same-forest _ _ (counted-mapped own (l .fields) ∙ ap (map of-record) (l .records-used)
-                           ∙ sym (same-lines (c .bytes) (drop (c .own) (c .pairs)) (c .records))
-                           ∙ sym (counted-mapped (λ (x : Numbered). x .number) (h .fields) ∙ ap (map of-numbered) (h .preorder))) in
+      same-forest _ _ (counted-mapped own (l .fields) ∙ ap (map of-record) (l .records-used)
+      ∙ sym (same-lines (c .bytes) (drop (c .own) (c .pairs)) (c .records))
+      ∙ sym (counted-mapped (λ (x : Numbered). x .number) (h .fields) ∙ ap (map of-numbered) (h .preorder))) in
       ap gathered shape ∙ sym (gathered-numbers (h .fields)) ∙ sym (h .same-numbers)
 
   pub walk-tells : numbers-at 32 (length (c .records)) (c .records) .numbers ≡ numbers-in (l .fields)
@@ -124,8 +124,15 @@ counts : (f : Forest FieldRecord) → how-many (preorder f) ≡ length (numbers-
 counts none = refl
 counts (tree x kids rest) =
     let f = λ (y : FieldRecord). length (own-number y) in
-    omega (arith, sumBy-cons f x (preorder kids ++ preorder rest), sumBy-append f (preorder kids) (preorder rest), counts kids, counts rest,
-           length-append (numbers-in kids) (own-number x ++ numbers-in rest), length-append (own-number x) (numbers-in rest))
+    omega (
+      arith,
+      sumBy-cons f x (preorder kids ++ preorder rest),
+      sumBy-append f (preorder kids) (preorder rest),
+      counts kids,
+      counts rest,
+      length-append (numbers-in kids) (own-number x ++ numbers-in rest),
+      length-append (own-number x) (numbers-in rest),
+    )
 
 pub counted-numbers : (c : Content) (l : Lawful c) → how-many (c .records) ≡ length (numbers-in (l .fields))
 counted-numbers c l = ap how-many (sym (spelt-by (l .fields) (c .records) (l .records-used))) ∙ counts (l .fields)
@@ -152,5 +159,10 @@ module _ (c : Content) (l : Lawful c) where
   laid n items₀ free₀ items₁ free₁ e a b =
       let one = holds-one c l in
       let same = tells n e ∙ held-numbers c l (one .schema) (one .numbers) (one .holds) in
-      record { schema = one .schema; numbers = one .numbers; holds = one .holds
-             ; items = a ∙ ap (λ ns. items₀ ++ ns) same; free = b ∙ ap (λ ns. drop (length ns) free₀) same }
+      record {
+        schema = one .schema;
+        numbers = one .numbers;
+        holds = one .holds;
+        items = a ∙ ap (λ ns. items₀ ++ ns) same;
+        free = b ∙ ap (λ ns. drop (length ns) free₀) same;
+      }

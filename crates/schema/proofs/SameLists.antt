@@ -1,5 +1,5 @@
 -- Whether two lists are equal, element by element.
-use mathlib.Core.Path.{_≡_, refl, sym, ap, _∙_}
+use mathlib.Core.Path.{_≡_, sym, ap, _∙_}
 use mathlib.Core.List.{List, [], _∷_, map}
 use Prim.Native.Nat.{ℕ, _+_, _<_, _≤_}
 use lib.ListN.{length, drop, getD}
@@ -11,9 +11,10 @@ Same-so-far us vs ls ms = (us ≡ vs → ls ≡ ms) × (ls ≡ ms → us ≡ vs)
 
 module _ {V : Type 0} (us vs ls ms : List V) (so-far : Same-so-far us vs ls ms) where
   pub same-step : (v w : V) (ls′ ms′ : List V) → ls ≡ v ∷ ls′ → ms ≡ w ∷ ms′ → v ≡ w → Same-so-far us vs ls′ ms′
-  same-step v w ls′ ms′ e f same =
-      (λ all. let both : v ∷ ls′ ≡ w ∷ ms′ = sym e ∙ so-far .0 all ∙ f in cc,
-       λ rest. so-far .1 (e ∙ ap (λ x. x ∷ ls′) same ∙ ap (λ l. w ∷ l) rest ∙ sym f))
+  same-step v w ls′ ms′ e f same = (
+    λ all. let both : v ∷ ls′ ≡ w ∷ ms′ = sym e ∙ so-far .0 all ∙ f in cc,
+    λ rest. so-far .1 (e ∙ ap (λ x. x ∷ ls′) same ∙ ap (λ l. w ∷ l) rest ∙ sym f),
+  )
 
   pub differ-step : (v w : V) (ls′ ms′ : List V) → ls ≡ v ∷ ls′ → ms ≡ w ∷ ms′ → (v ≡ w → ⊥) → us ≡ vs → ⊥
   differ-step v w ls′ ms′ e f differ all = let both : v ∷ ls′ ≡ w ∷ ms′ = sym e ∙ so-far .0 all ∙ f in differ (cc)

@@ -1,5 +1,4 @@
 -- A schema line by line: its fields in preorder with their child counts, as they stand on a sheet.
-use mathlib.Core.Path.{_≡_}
 use mathlib.Core.List.{List, [], _∷_, map}
 use Prim.Native.Nat.{ℕ}
 use lib.ListN.{take, drop}

@@ -11,12 +11,11 @@ ghost use Rattle.rules.specs.Verdict.{verdict, or-else};
 ghost use Rattle.rules.specs.Lawful.{Lawful};
 ghost use Rattle.schema.specs.Lines.{line, lines-of, own-of};
 ghost use Rattle.schema.specs.Answers.{Tells-alike};
-
 use crate::fields::same_field;
 use crate::fields::same_pairs;
 use roll::part;
-use rules::check;
 use rules::SheetRefusal;
+use rules::check;
 use sheet::Sheet;
 use types::FieldRecord;
 

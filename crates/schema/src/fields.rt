@@ -8,7 +8,6 @@ ghost use Rattle.std.specs.Options.{mapped};
 ghost use Rattle.types.specs.Types.{type-value};
 ghost use Rattle.sheet.specs.Schemas.{Field, pair-value, encoding-value, field-value};
 ghost use Rattle.sheet.specs.Texts.{said};
-
 use sheet::text_bytes;
 use types::DataType;
 use types::DataTypePartialEq;
@@ -102,7 +101,14 @@ fn same_numbers(x: FieldRecord, y: FieldRecord) -> bool
 }
 
 // Whether two records with their pairs say the same field, with as many children.
-pub fn same_field(a: &[u8], x: FieldRecord, ps: &[Pair], b: &[u8], y: FieldRecord, qs: &[Pair]) -> bool
+pub fn same_field(
+    a: &[u8],
+    x: FieldRecord,
+    ps: &[Pair],
+    b: &[u8],
+    y: FieldRecord,
+    qs: &[Pair],
+) -> bool
     ensures { λ r. ⌜ Decides r (_≡_ {A = Field × ℕ} (field-value (now (a .entry)) (now (ps .entry)) x, x .children) (field-value (now (b .entry)) (now (qs .entry)) y, y .children)) ⌝ }
 {
     if !same_name_and_type(a, x, b, y) {

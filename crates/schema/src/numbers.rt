@@ -11,13 +11,12 @@ ghost use Rattle.rules.specs.Verdict.{verdict};
 ghost use Rattle.rules.specs.Lawful.{Lawful};
 ghost use Rattle.schema.specs.Numbers.{own-number, how-many, numbers-at};
 ghost use Rattle.schema.specs.Answers.{Laid, Why-not};
-
 use roll::Roll;
-use rules::check;
 use rules::SheetRefusal;
 use rules::SheetRefusalDebug;
 use rules::SheetRefusalEq;
 use rules::SheetRefusalPartialEq;
+use rules::check;
 use sheet::Sheet;
 use types::FieldRecord;
 

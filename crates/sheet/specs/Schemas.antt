@@ -62,12 +62,14 @@ encoding-value d = record { index = d .«index_type»; ordered = d .ordered }
 -- What a record says, where these are its pairs.
 abbrev pub field-value : List ℕ → List Pair → FieldRecord → Field
 field-value bytes ps x =
-    record { name = said bytes (x .name)
-           ; nullable = x .nullable
-           ; type = type-value (said bytes) (x .«data_type»)
-           ; encoding = mapped encoding-value (x .dictionary)
-           ; type-id = x .«type_id»
-           ; pairs = map (pair-value bytes) ps }
+    record {
+      name = said bytes (x .name);
+      nullable = x .nullable;
+      type = type-value (said bytes) (x .«data_type»);
+      encoding = mapped encoding-value (x .dictionary);
+      type-id = x .«type_id»;
+      pairs = map (pair-value bytes) ps;
+    }
 
 abbrev pub numbered-value : List ℕ → List Pair → FieldRecord → Numbered
 numbered-value bytes ps x = record { field = field-value bytes ps x; number = mapped (λ d. d .number) (x .dictionary) }

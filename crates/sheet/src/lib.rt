@@ -3,9 +3,9 @@ pub mod memory;
 pub mod search;
 
 pub use memory::Sheet;
-pub use search::first_with_text;
-pub use search::spells;
-pub use search::text_bytes;
 pub use search::HasText;
 pub use search::PairHasText;
 pub use search::RecordHasText;
+pub use search::first_with_text;
+pub use search::spells;
+pub use search::text_bytes;

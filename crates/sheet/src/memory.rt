@@ -8,12 +8,11 @@ ghost use Rattle.std.specs.Results.{Cases};
 ghost use Rattle.roll.specs.Rolls.{items, free};
 ghost use Rattle.sheet.specs.Contents.{Content, content};
 ghost use Rattle.sheet.specs.Texts.{said, Within};
-
+use roll::Full;
+use roll::Roll;
 use types::FieldRecord;
 use types::Pair;
 use types::Text;
-use roll::Full;
-use roll::Roll;
 
 /// A schema as it lies in memory. Records stand in preorder, pairs in their owners' order with the schema's own first.
 /// Nothing is promised of what stands here until it was checked.
@@ -27,13 +26,22 @@ pub struct Sheet<'a> {
 
 impl<'a> Sheet<'a> {
     /// An empty sheet over the caller's memory.
-    pub fn new(records: &'a mut [FieldRecord], pairs: &'a mut [Pair], text: &'a mut [u8]) -> Sheet<'a>
+    pub fn new(
+        records: &'a mut [FieldRecord],
+        pairs: &'a mut [Pair],
+        text: &'a mut [u8],
+    ) -> Sheet<'a>
         ensures content { λ r. ⌜ content r ≡ record { records = []; pairs = []; bytes = []; own = 0 } ⌝ }
         ensures records { λ r. ⌜ free (r .records) ≡ now (records .entry) ⌝ }
         ensures pairs { λ r. ⌜ free (r .pairs) ≡ now (pairs .entry) ⌝ }
         ensures text { λ r. ⌜ free (r .text) ≡ now (text .entry) ⌝ }
     {
-        Sheet { records: Roll::new(records), pairs: Roll::new(pairs), text: Roll::new(text), own_pairs: 0 }
+        Sheet {
+            records: Roll::new(records),
+            pairs: Roll::new(pairs),
+            text: Roll::new(text),
+            own_pairs: 0,
+        }
     }
 
     /// The bytes of a text, or none where it leaves the used text bytes.
@@ -63,7 +71,10 @@ impl<'a> Sheet<'a> {
             return Err(Full);
         }
         self.text.add_all(bytes)?;
-        Ok(Text { start: start as u32, len: len as u32 })
+        Ok(Text {
+            start: start as u32,
+            len: len as u32,
+        })
     }
 
     /// Takes everything off the sheet. The places hold what they held.

@@ -5,7 +5,6 @@ ghost use lib.ListN.{length, take, drop};
 ghost use Rattle.std.specs.Orderings.{Decides};
 ghost use Rattle.types.specs.declared.Text.{Text};
 ghost use Rattle.sheet.specs.Texts.{said, Spells, First};
-
 use roll::part;
 use types::FieldRecord;
 use types::Pair;

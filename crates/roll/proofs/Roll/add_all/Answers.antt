@@ -21,10 +21,13 @@ returns-then-xs-room g c =
     let a = c .len-at .result in
     let e = c .len-at .ensures .value in
     let h : a ≤ length P = omega (arith, length-take u P) in
-    record { cases = omega (arith, length-take u P, length-drop u P)
-           ; items = ap (take (a + length x)) (c .store-all .ensures) ∙ take-placed a P x h ∙ ap (λ z. z ++ x) (ap (λ n. take n P) e ∙ take-own-length u P)
-           ; free = ap (drop (a + length x)) (c .store-all .ensures) ∙ drop-placed a P x h ∙ ap (drop (length x)) (ap (λ n. drop n P) e ∙ drop-own-length u P)
-           ; lender = refl; same = tt }
+    record {
+      cases = omega (arith, length-take u P, length-drop u P);
+      items = ap (take (a + length x)) (c .store-all .ensures) ∙ take-placed a P x h ∙ ap (λ z. z ++ x) (ap (λ n. take n P) e ∙ take-own-length u P);
+      free = ap (drop (a + length x)) (c .store-all .ensures) ∙ drop-placed a P x h ∙ ap (drop (length x)) (ap (λ n. drop n P) e ∙ drop-own-length u P);
+      lender = refl;
+      same = tt;
+    }
 
 pub returns-else-xs-room : need.returns-else-xs-room
 returns-else-xs-room g c =

@@ -16,9 +16,12 @@ returns-then-i-len g c =
     let u = c .args .self .now .used in
     let i = c .args .i in
     let h : i < length (take u P) = omega arith in
-    record { done = sym (lt-ltb i _ h)
-           ; items = ap (take u) (c .store .ensures) ∙ take-set-lt u P i (c .args .x)
-           ; free = ap (drop u) (c .store .ensures) ∙ drop-set-lt u P i (c .args .x) (omega (arith, length-take u P)); lender = refl }
+    record {
+      done = sym (lt-ltb i _ h);
+      items = ap (take u) (c .store .ensures) ∙ take-set-lt u P i (c .args .x);
+      free = ap (drop u) (c .store .ensures) ∙ drop-set-lt u P i (c .args .x) (omega (arith, length-take u P));
+      lender = refl;
+    }
 
 pub returns-else-i-len : need.returns-else-i-len
 returns-else-i-len g c =

@@ -1,9 +1,7 @@
-use mathlib.Core.Path.{_≡_, sym, ap, _∙_}
-use mathlib.Core.Bool.{true}
+use mathlib.Core.Path.{sym, ap, _∙_}
 use Prim.Native.Nat.{_+_, _-_}
-use lib.ListN.{length, take, drop, getD}
 use Rattle.std.proofs.shelf.Lists.{take-rest}
-use Rattle.rules.specs.Tests.{every, pair-fits, keys, lacks}
+use Rattle.rules.specs.Tests.{every, pair-fits}
 use Rattle.rules.proofs.KeySteps.{differ-broken, differ-past, differ-done, lacks-later, every-drop}
 use Rattle.rules.proofs.texts.keys_differ.Needs as need
 
@@ -15,15 +13,15 @@ lacks-key-requires c κs =
 pub returns-then-not-lacks-key : need.returns-then-not-lacks-key
 returns-then-not-lacks-key c =
     sym (differ-broken (c .args .bytes .now) (c .args .pairs .now) (c .loop-i .i) _ (c .loop-i-test .taken)
-          (lacks-later (c .args .bytes .now) (c .args .pairs .now) (c .loop-i .i) _ (c .loop-i-test .taken) (c .lacks-key .result) (c .text-bytes-key .result .now) (c .text-bytes-key .ensures) (c .lacks-key .ensures)
-           ∙ c .if-not-lacks-key .taken))
+    (lacks-later (c .args .bytes .now) (c .args .pairs .now) (c .loop-i .i) _ (c .loop-i-test .taken) (c .lacks-key .result) (c .text-bytes-key .result .now) (c .text-bytes-key .ensures) (c .lacks-key .ensures)
+    ∙ c .if-not-lacks-key .taken))
     ∙ c .loop-i .inv
 
 pub loop-i-again : need.loop-i-again
 loop-i-again c =
     differ-past (c .args .bytes .now) (c .args .pairs .now) (c .loop-i .i) _ (c .loop-i-test .taken)
-      (lacks-later (c .args .bytes .now) (c .args .pairs .now) (c .loop-i .i) _ (c .loop-i-test .taken) (c .lacks-key .result) (c .text-bytes-key .result .now) (c .text-bytes-key .ensures) (c .lacks-key .ensures)
-       ∙ c .if-not-lacks-key .left)
+    (lacks-later (c .args .bytes .now) (c .args .pairs .now) (c .loop-i .i) _ (c .loop-i-test .taken) (c .lacks-key .result) (c .text-bytes-key .result .now) (c .text-bytes-key .ensures) (c .lacks-key .ensures)
+    ∙ c .if-not-lacks-key .left)
     ∙ c .loop-i .inv
 
 pub returns : need.returns

@@ -1,4 +1,3 @@
-use native.Mathlib.Omega.{arith}
 use mathlib.Core.Path.{sym, _∙_}
 use Rattle.rules.specs.Tests.{pair-fits}
 use Rattle.rules.proofs.TextSteps.{every-broken, every-past, every-done}

@@ -15,6 +15,6 @@ abbrev pub μ-check-type : given.MeasureT-check-type
 abbrev pub Inv-check-type-loop-k : given.InvT-check-type-loop-k
 Inv-check-type-loop-k l =
     (walk-children (walk-field (content (l .sheet) .bytes) (l .room)) (l .n - l .k) (row-of (l .row)) (ahead (content (l .sheet)) (l .at))
-     ≡ walk-children (walk-field (content (l .sheet) .bytes) (l .room)) (l .n) (row-of (l .entry .row)) (ahead (content (l .sheet)) (l .entry .at)))
+    ≡ walk-children (walk-field (content (l .sheet) .bytes) (l .room)) (l .n) (row-of (l .entry .row)) (ahead (content (l .sheet)) (l .entry .at)))
     × (l .at .pair ≤ length (content (l .sheet) .pairs))
     × Has-room (row-of (l .row)) (l .n - l .k)

@@ -1,14 +1,11 @@
 use native.Mathlib.Omega.{arith}
 use mathlib.Core.Path.{_≡_, sym, ap, _∙_}
-use mathlib.Core.Bool.{true}
-use mathlib.Core.List.{List}
-use Prim.Native.Nat.{ℕ, _+_, _-_, _<_, _≤_}
+use Prim.Native.Nat.{_+_, _-_}
 use lib.ListN.{length, take, drop}
 use Rattle.std.proofs.shelf.Lists.{length-drop}
-use Rattle.roll.specs.Rolls.{items}
 use Rattle.sheet.specs.Contents.{content}
-use Rattle.rules.specs.Models.{ahead, row-of, told}
-use Rattle.rules.specs.Verdict.{first-broken, text-rules, counts-fit, site-at}
+use Rattle.rules.specs.Models.{ahead, row-of}
+use Rattle.rules.specs.Verdict.{first-broken, text-rules, counts-fit}
 use Rattle.rules.proofs.RecordSteps.{counts-told, counts-say, broken-counts, broken-depth, broken-parameters, to-texts, at-ok}
 use Rattle.rules.proofs.walk.check_record.Needs as need
 
@@ -46,9 +43,11 @@ returns c =
     let says = counts-say bytes (c .args .room) row (c .args .head) a e in
     let n : (c .args .at .pair + c .args .head .pairs) - c .args .at .pair ≡ c .args .head .pairs = omega arith in
     let own : take ((c .args .at .pair + c .args .head .pairs) - c .args .at .pair) (drop (c .args .at .pair) (c .as-slice-pairs .result .now)) ≡ take (c .args .head .pairs) (a .pairs) =
-        ap (λ m. take m (drop (c .args .at .pair) (c .as-slice-pairs .result .now))) n ∙ ap (λ ps. take (c .args .head .pairs) (drop (c .args .at .pair) ps)) (c .as-slice-pairs .ensures) in
-    record { rules = c .check-texts .ensures
-                     ∙ ap (λ b. first-broken (text-rules b (c .args .head) (take ((c .args .at .pair + c .args .head .pairs) - c .args .at .pair) (drop (c .args .at .pair) (c .as-slice-pairs .result .now))))) (c .as-slice .ensures)
-                     ∙ ap (λ ps. first-broken (text-rules bytes (c .args .head) ps)) own
-                     ∙ sym (to-texts bytes (c .args .room) row (c .args .head) a e (omega arith) (sym (c .parameters-fit .ensures) ∙ c .if-not-parameters-fit .left))
-           ; fits = at-ok (c .check-texts .result) _ (omega arith, omega (arith, says .1, length-drop (c .args .at .pair) (content (c .args .sheet .now) .pairs)), says .0) }
+    ap (λ m. take m (drop (c .args .at .pair) (c .as-slice-pairs .result .now))) n ∙ ap (λ ps. take (c .args .head .pairs) (drop (c .args .at .pair) ps)) (c .as-slice-pairs .ensures) in
+    record {
+      rules = c .check-texts .ensures
+          ∙ ap (λ b. first-broken (text-rules b (c .args .head) (take ((c .args .at .pair + c .args .head .pairs) - c .args .at .pair) (drop (c .args .at .pair) (c .as-slice-pairs .result .now))))) (c .as-slice .ensures)
+          ∙ ap (λ ps. first-broken (text-rules bytes (c .args .head) ps)) own
+          ∙ sym (to-texts bytes (c .args .room) row (c .args .head) a e (omega arith) (sym (c .parameters-fit .ensures) ∙ c .if-not-parameters-fit .left));
+      fits = at-ok (c .check-texts .result) _ (omega arith, omega (arith, says .1, length-drop (c .args .at .pair) (content (c .args .sheet .now) .pairs)), says .0);
+    }

@@ -4,5 +4,7 @@ use Rattle.schema.proofs.compare.alike.Needs as need
 
 pub returns : need.returns
 returns c =
-    record { cases = tells (content (c .args .a .now)) (content (c .args .b .now)) (c .same-schema .result) (c .same-schema .ensures)
-           ; lawful = (c .in-Continue-check .ensures tt .lawful, c .in-Continue-check-2 .ensures tt .lawful) }
+    record {
+      cases = tells (content (c .args .a .now)) (content (c .args .b .now)) (c .same-schema .result) (c .same-schema .ensures);
+      lawful = (c .in-Continue-check .ensures tt .lawful, c .in-Continue-check-2 .ensures tt .lawful);
+    }

@@ -16,4 +16,4 @@ returns-then-not-same-encoding c =
 pub returns : need.returns
 returns c =
     by-pairs (c .args .a .now) (c .args .ps .now) (c .args .x) (c .args .b .now) (c .args .qs .now) (c .args .y) (c .same-pairs .result)
-      (c .same-name-and-type .ensures .0 (c .if-not-same-name-and-type .left)) (c .same-numbers .ensures .0 (c .if-not-same-numbers .left)) (c .same-encoding .ensures .0 (c .if-not-same-encoding .left)) (c .same-pairs .ensures)
+    (c .same-name-and-type .ensures .0 (c .if-not-same-name-and-type .left)) (c .same-numbers .ensures .0 (c .if-not-same-numbers .left)) (c .same-encoding .ensures .0 (c .if-not-same-encoding .left)) (c .same-pairs .ensures)

@@ -13,7 +13,7 @@ abbrev pub μ-lay-row : given.MeasureT-lay-row
 abbrev pub Inv-loop-k : given.InvT-loop-k
 Inv-loop-k l =
     Progress (items (l .entry .out)) (free (l .entry .out)) (items (l .out)) (free (l .out))
-      (numbers-row (numbers-at (l .room - 1)) (l .n - l .k) (drop (l .at) (content (l .sheet) .records)) .numbers)
-      (numbers-row (numbers-at (l .room - 1)) (l .n) (drop (l .entry .at) (content (l .sheet) .records)) .numbers)
+    (numbers-row (numbers-at (l .room - 1)) (l .n - l .k) (drop (l .at) (content (l .sheet) .records)) .numbers)
+    (numbers-row (numbers-at (l .room - 1)) (l .n) (drop (l .entry .at) (content (l .sheet) .records)) .numbers)
     × (numbers-row (numbers-at (l .room - 1)) (l .n - l .k) (drop (l .at) (content (l .sheet) .records)) .records
-       ≡ numbers-row (numbers-at (l .room - 1)) (l .n) (drop (l .entry .at) (content (l .sheet) .records)) .records)
+    ≡ numbers-row (numbers-at (l .room - 1)) (l .n) (drop (l .entry .at) (content (l .sheet) .records)) .records)

@@ -1,7 +1,7 @@
 use native.Mathlib.Omega.{arith}
 use mathlib.Core.Logic.{⊎-elim}
 use mathlib.Core.Path.{_≡_}
-use Prim.Native.Nat.{_<_, _≤_}
+use Prim.Native.Nat.{_<_}
 use lib.ListN.{length}
 use Rattle.rules.proofs.RowSteps.{noted, not-noted, never-full}
 use Rattle.rules.proofs.siblings.Siblings.note.Needs as need
@@ -17,4 +17,4 @@ returns-else-self c =
     let s = c .args .self .now in
     let l : length (s .ids) ≡ 128 = omega arith in
     ⊎-elim (λ w. absurd (never-full (s .ids) (s .len) (c .args .id) (s .«in_union») (w .0) l (w .1) (c .pre)))
-           (λ e. not-noted (s .ids) (s .len) (c .args .id) (s .«in_union») e) (c .else-self .either)
+    (λ e. not-noted (s .ids) (s .len) (c .args .id) (s .«in_union») e) (c .else-self .either)
