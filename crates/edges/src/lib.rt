@@ -339,7 +339,7 @@ mod tests {
     }
 
     #[test]
-    fn search() -> Result<(), Fail> {
+    fn first_with_a_text() -> Result<(), Fail> {
         let records = [named(9, 2), named(1, 2), named(0, 2), named(1, 2)];
         check_eq(first_with_text(&records, b"abc", b"bc"), Some(1))?;
         check_eq(first_with_text(&records, b"abc", b"ab"), Some(2))?;

@@ -1,4 +1,4 @@
-//! The names of types, units, modes and index types, and the one search that reads them.
+//! The names of types, units, modes and index types, and the one look-up that reads them.
 ghost use mathlib.Core.Path.{_≡_};
 ghost use mathlib.Core.List.{List};
 ghost use Prim.Native.Nat.{ℕ};

@@ -1,4 +1,4 @@
-//! One search for all elements that have a text: records by name, pairs by key.
+//! One look-up for all elements that have a text: records by name, pairs by key.
 ghost use mathlib.Core.Path.{_≡_};
 ghost use Prim.Native.Nat.{ℕ, _+_, _<_, _≤_};
 ghost use lib.ListN.{length, take, drop};

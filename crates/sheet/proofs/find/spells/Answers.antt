@@ -3,7 +3,7 @@ use Prim.Native.Nat.{_+_, _-_}
 use mathlib.Core.Path.{_≡_, ap, sym, _∙_}
 use lib.ListN.{take, drop}
 use Rattle.std.proofs.shelf.Equals.{matches-decides}
-use Rattle.sheet.proofs.search.spells.Needs as need
+use Rattle.sheet.proofs.find.spells.Needs as need
 
 pub returns : need.returns
 returns c =

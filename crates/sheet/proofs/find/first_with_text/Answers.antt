@@ -3,7 +3,7 @@ use Rattle.std.proofs.shelf.Maps.{nth-read}
 use Rattle.std.proofs.shelf.Tests.{both-ways}
 use Rattle.sheet.specs.Texts.{Spells}
 use Rattle.sheet.proofs.Firsts.{none-before-more}
-use Rattle.sheet.proofs.search.first_with_text.Needs as need
+use Rattle.sheet.proofs.find.first_with_text.Needs as need
 
 pub returns-then-spells : need.returns-then-spells
 returns-then-spells g c = (

@@ -1,4 +1,4 @@
-use Rattle.sheet.proofs.search.first_with_text.Given as given
+use Rattle.sheet.proofs.find.first_with_text.Given as given
 use Rattle.sheet.specs.Texts.{Spells, NoneBefore}
 
 abbrev pub Inv-loop-i : given.InvT-loop-i
