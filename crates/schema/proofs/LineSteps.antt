@@ -16,6 +16,7 @@ use Rattle.types.specs.declared.FieldRecord.{FieldRecord}
 use Rattle.sheet.specs.Contents.{Content}
 use Rattle.sheet.specs.Forests.{Forest, none, tree, width, counted, mapped-forest}
 use Rattle.sheet.specs.Schemas.{Field, PairValue, Schema, Numbered, field-value, listed, Holds}
+use Rattle.schema.proofs.MappedRows.{counted-mapped}
 use Rattle.rules.proofs.Holding.{same-forest}
 use Rattle.schema.specs.Lines.{line, lines, lines-of, own-of}
 use Rattle.schema.specs.Answers.{Tells-alike}
@@ -47,25 +48,13 @@ module _ (c : Content) (p i : ℕ) where
 abbrev bare : Numbered × ℕ → Field × ℕ
 bare p = (p .0 .field, p .1)
 
-width-mapped : (g : Forest Numbered) → width (mapped-forest (λ x. x .field) g) ≡ width g
-width-mapped none = refl
-width-mapped (tree x kids rest) = ap suc (width-mapped rest)
-
-counted-mapped : (g : Forest Numbered) → counted (mapped-forest (λ x. x .field) g) ≡ map bare (counted g)
-counted-mapped none = refl
-counted-mapped (tree x kids rest) =
-    let fs = counted (mapped-forest (λ (y : Numbered). y .field) rest) in
-    ap (λ n. (x .field, n) ∷ (counted (mapped-forest (λ (y : Numbered). y .field) kids) ++ fs)) (width-mapped kids)
-    ∙ ap (λ l. (x .field, width kids) ∷ l)
-    (ap (λ l. l ++ fs) (counted-mapped kids) ∙ ap (λ l. map bare (counted kids) ++ l) (counted-mapped rest) ∙ sym (map-append bare (counted kids) (counted rest)))
-
 bare-listed : (bytes : List ℕ) (ps : List Pair) (xs : List FieldRecord) → map bare (listed bytes ps xs) ≡ lines bytes ps xs
 bare-listed bytes ps [] = refl
 bare-listed bytes ps (x ∷ xs) = ap (λ l. (field-value bytes (take (x .pairs) ps) x, x .children) ∷ l) (bare-listed bytes (drop (x .pairs) ps) xs)
 
 pub fields-are-lines : (c : Content) (s : Schema) (n : List ℤ) → Holds c s n → counted (s .fields) ≡ lines-of c
 fields-are-lines c s n h =
-    ap counted (h .same-fields) ∙ counted-mapped (h .fields) ∙ ap (map bare) (h .preorder) ∙ bare-listed (c .bytes) (drop (c .own) (c .pairs)) (c .records)
+    ap counted (h .same-fields) ∙ counted-mapped (λ (x : Numbered). x .field) (h .fields) ∙ ap (map bare) (h .preorder) ∙ bare-listed (c .bytes) (drop (c .own) (c .pairs)) (c .records)
 
 both-parts : {f g : Forest Field} {p q : List PairValue} → f ≡ g → p ≡ q → _≡_ {A = Schema} (record { fields = f; pairs = p }) (record { fields = g; pairs = q })
 both-parts a b = cc

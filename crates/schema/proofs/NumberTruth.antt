@@ -21,6 +21,7 @@ use Rattle.rules.specs.Sites.{Row, plain, after, row-under, pairs-in, sites}
 use Rattle.rules.specs.Lawful.{with-count, Lawful}
 use Rattle.rules.proofs.Grown.{preorder, Right, all-left, all-right}
 use Rattle.rules.proofs.Judged.{spelt-by, right-by}
+use Rattle.schema.proofs.MappedRows.{counted-mapped}
 use Rattle.rules.proofs.Holding.{same-forest, holds-one}
 use Rattle.schema.specs.declared.numbers.NumbersRefusal.the-variants.{Full}
 use Rattle.schema.specs.Answers.{Laid, Why-not}
@@ -75,19 +76,6 @@ numbered-row (tree x kids rest) (suc m) ps h right all =
     ∙ ap (λ t. record { numbers = numbers-in kids ++ (own-number x ++ t .numbers); records = t .records }) later
 
 -- A schema's numbers are those of the records that spell it.
-module _ {A B : Type 0} (h : A → B) where
-  width-mapped : (g : Forest A) → width (mapped-forest h g) ≡ width g
-  width-mapped none = refl
-  width-mapped (tree x kids rest) = ap suc (width-mapped rest)
-
-  counted-mapped : (g : Forest A) → counted (mapped-forest h g) ≡ map (λ p. (h (p .0), p .1)) (counted g)
-  counted-mapped none = refl
-  counted-mapped (tree x kids rest) =
-      ap (λ n. (h x, n) ∷ (counted (mapped-forest h kids) ++ counted (mapped-forest h rest))) (width-mapped kids)
-      ∙ ap (λ l. (h x, width kids) ∷ l)
-      (ap (λ l. l ++ counted (mapped-forest h rest)) (counted-mapped kids) ∙ ap (λ l. map (λ (p : A × ℕ). (h (p .0), p .1)) (counted kids) ++ l) (counted-mapped rest)
-      ∙ sym (map-append (λ (p : A × ℕ). (h (p .0), p .1)) (counted kids) (counted rest)))
-
 gathered-numbers : (g : Forest Numbered) → numbers-of g ≡ gathered (mapped-forest (λ x. x .number) g)
 gathered-numbers none = refl
 gathered-numbers (tree x kids rest) =
