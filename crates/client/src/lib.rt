@@ -1,4 +1,6 @@
 //! A client of any store: it puts a pair, or leaves the store as it was. What it promises rests on the traits alone.
+#![tactic(auto)]
+
 ghost use Rattle.std.specs.Prelude.{◌≡◌, MatchResult};
 ghost use Rattle.store.specs.Meaning.{Grows};
 ghost use Rattle.store.specs.State.{Later, held};

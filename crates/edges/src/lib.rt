@@ -1,4 +1,6 @@
 //! Sheets at the edges of the rules: each limit and one past it, each refusal by its number.
+#![tactic(auto)]
+
 use rules::check;
 use sheet::Sheet;
 use types::{DataType, FieldRecord, Pair, Text};

@@ -1,4 +1,6 @@
 //! The gateway: runs a script of listing lines and commands on a sheet, and prints each step with its outcome.
+#![tactic(auto)]
+
 mod command;
 mod desk;
 mod memory;

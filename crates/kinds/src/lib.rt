@@ -1,4 +1,6 @@
 //! The kinds of tables of the schema format and of its message, and what each slot of a kind may hold.
+#![tactic(auto)]
+
 ghost use Rattle.std.specs.Prelude.{◌≡◌};
 ghost use Rattle.kinds.specs.Slots.{sorts, code, members, by_tag, width};
 

@@ -1,4 +1,6 @@
 //! The listing, a text form of a sheet, read line by line into a sheet.
+#![tactic(auto)]
+
 pub mod fill;
 pub mod line;
 pub mod type_words;

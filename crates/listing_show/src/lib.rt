@@ -1,4 +1,6 @@
 //! The listing of a sheet, printed.
+#![tactic(auto)]
+
 pub mod place;
 pub mod quote;
 pub mod show;

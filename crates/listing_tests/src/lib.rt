@@ -1,4 +1,6 @@
 //! Tests of the listing, in a crate of their own so that its proofs are not checked twice.
+#![tactic(auto)]
+
 #[cfg(test)]
 mod tests {
     use listing::fill::Filler;

@@ -1,4 +1,6 @@
 //! The rules of a lawful sheet, and the check that tells which one is broken first.
+#![tactic(auto)]
+
 mod limits;
 mod refusal;
 mod siblings;

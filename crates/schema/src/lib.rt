@@ -1,4 +1,6 @@
 //! What schemas sheets hold: whether two are alike, and which numbers their dictionaries have.
+#![tactic(auto)]
+
 mod compare;
 mod fields;
 mod numbers;

@@ -1,4 +1,6 @@
 //! Sheets: an Arrow schema in the caller's memory, as field records in preorder, pairs and text bytes.
+#![tactic(auto)]
+
 pub mod find;
 pub mod memory;
 

@@ -1,4 +1,6 @@
 //! What a store of texts, lists and tables is: what may be asked of it, and what may be put in it.
+#![tactic(auto)]
+
 pub mod filled;
 pub mod images;
 pub mod place;

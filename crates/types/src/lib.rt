@@ -1,4 +1,5 @@
 //! The parts of a schema: texts, pairs, types, dictionaries and field records.
+#![tactic(auto)]
 
 ghost use Rattle.std.specs.Prelude.{◌≡◌, Decides};
 ghost use Rattle.std.specs.Cmp.Rules.{comparing};

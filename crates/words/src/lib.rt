@@ -1,4 +1,6 @@
 //! A store over the caller's words.
+#![tactic(auto)]
+
 pub mod store;
 pub mod view;
 pub mod worked;

@@ -1,4 +1,6 @@
 //! Tests of the store of words at its edges.
+#![tactic(auto)]
+
 #[cfg(test)]
 mod cuts;
 #[cfg(test)]

@@ -1,3 +1,5 @@
 //! x
+#![tactic(auto)]
+
 #[cfg(test)]
 mod a;

@@ -8,5 +8,5 @@ returns g c =
     let a = c.args.at in
     let x = c.args.xs.now in
     let k : (a + length x) - a ≡ length x = omega arith in
-    ap (λ z. take a s ++ (z ++ drop ((a + length x) - a) (drop a s))) c.copy-from-slice.ensures.after
+    ap (λ z. take a s ++ (z ++ drop ((a + length x) - a) (drop a s))) c.copy_from_slice.ensures.after
     ∙ ap (λ z. take a s ++ (x ++ z)) (ap (λ m. drop m (drop a s)) k ∙ drop-drop (length x) a s)

@@ -3,11 +3,11 @@ use Rattle.std.proofs.lemmas.List.{length-take, length-drop}
 use Rattle.roll.proofs.Parted.{take_own_length, drop_own_length, take_placed, drop_placed}
 use Rattle.roll.proofs.Roll.add_all.Goals as goal
 
-pub overflow-sub-room : goal.overflow-sub-room
-overflow-sub-room g c = omega (arith, length-take c.args.self.now.used c.args.self.now.places.now)
+pub overflow_sub-room : goal.overflow_sub-room
+overflow_sub-room g c = omega (arith, length-take c.args.self.now.used c.args.self.now.places.now)
 
-pub store-all-requires : goal.store-all-requires
-store-all-requires g c = omega (arith, length-take c.args.self.now.used c.args.self.now.places.now)
+pub store_all-requires : goal.store_all-requires
+store_all-requires g c = omega (arith, length-take c.args.self.now.used c.args.self.now.places.now)
 
 pub returns-then-xs-room : goal.returns-then-xs-room
 returns-then-xs-room g c =
@@ -19,8 +19,8 @@ returns-then-xs-room g c =
     let h : a ≤ length P = omega (arith, length-take u P) in
     record {
       cases = omega (arith, length-take u P, length-drop u P);
-      items = ap (take (a + length x)) c.store-all.ensures ∙ take_placed a P x h ∙ ap (λ z. z ++ x) (ap (λ n. take n P) e ∙ take_own_length u P);
-      free = ap (drop (a + length x)) c.store-all.ensures ∙ drop_placed a P x h ∙ ap (drop (length x)) (ap (λ n. drop n P) e ∙ drop_own_length u P);
+      items = ap (take (a + length x)) c.store_all.ensures ∙ take_placed a P x h ∙ ap (λ z. z ++ x) (ap (λ n. take n P) e ∙ take_own_length u P);
+      free = ap (drop (a + length x)) c.store_all.ensures ∙ drop_placed a P x h ∙ ap (drop (length x)) (ap (λ n. drop n P) e ∙ drop_own_length u P);
       lender = refl;
       same = tt;
     }

@@ -3,8 +3,8 @@ use Rattle.std.proofs.lemmas.List.{length-take}
 use Rattle.roll.proofs.Parted.{take_own_length}
 use Rattle.roll.proofs.Roll.as_slice.Goals as goal
 
-pub slice-bounds-result-end : goal.slice-bounds-result-end
-slice-bounds-result-end g c =
+pub slice_bounds-result-end : goal.slice_bounds-result-end
+slice_bounds-result-end g c =
     let h : c.len-n.result ≤ length c.args.self.now.places.now = omega (arith, length-take c.args.self.now.used c.args.self.now.places.now) in
     search rules
 
