@@ -1,1 +1,3 @@
+pub mod Equality
+pub mod EqualityLaws
 pub mod Types
