@@ -5,7 +5,7 @@ use Rattle.rules.proofs.limits.pair_lengths.Goals as goal
 
 pub loop-p-preserved : goal.loop-p-preserved
 loop-p-preserved c = (
-  sum_more pair_length c.args.pairs.now c.loop-p.p-index c.loop-p.total c.pair-length-total.result _ _ c.loop-p-test.true c.pair-length-total.ensures.value c.loop-p.invariant.0,
+  sum_more pair_length c.args.pairs.now c.loop-p.p-index c.loop-p.total c.pair_length-total.result _ _ c.loop-p-test.true c.pair_length-total.ensures.value c.loop-p.invariant.0,
   omega arith,
 )
 

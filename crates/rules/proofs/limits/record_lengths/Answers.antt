@@ -5,7 +5,7 @@ use Rattle.rules.proofs.limits.record_lengths.Goals as goal
 
 pub loop-x-preserved : goal.loop-x-preserved
 loop-x-preserved c = (
-  sum_more record_length c.args.records.now c.loop-x.x-index c.loop-x.total c.record-length-total.result _ _ c.loop-x-test.true c.record-length-total.ensures.value c.loop-x.invariant.0,
+  sum_more record_length c.args.records.now c.loop-x.x-index c.loop-x.total c.record_length-total.result _ _ c.loop-x-test.true c.record_length-total.ensures.value c.loop-x.invariant.0,
   omega arith,
 )
 

@@ -3,4 +3,4 @@ use Rattle.rules.proofs.KeySteps.{lacks_told, not_not}
 use Rattle.rules.proofs.texts.lacks_key.Goals as goal
 
 pub returns : goal.returns
-returns c = sym (not_not c.is-none.result) ∙ ap not (sym c.is-none.ensures) ∙ lacks_told c.args.bytes.now c.args.key.now c.args.pairs.now c.first-with-text.result c.requires c.first-with-text.ensures
+returns c = sym (not_not c.is_none.result) ∙ ap not (sym c.is_none.ensures) ∙ lacks_told c.args.bytes.now c.args.key.now c.args.pairs.now c.first_with_text.result c.requires c.first_with_text.ensures
