@@ -6,5 +6,5 @@ pub returns : goal.returns
 returns c =
     record {
       cases = tells (content c.args.a.now) (content c.args.b.now) c.same_schema.result c.same_schema.ensures;
-      lawful = (c.in-ok-check.ensures.lawful, c.in-ok-check-2.ensures.lawful);
+      lawful = (c.in_ok-check.ensures.lawful, c.in_ok-check-2.ensures.lawful);
     }

@@ -14,25 +14,25 @@ returns-then-n-len c =
       λ e. absurd (c.if-n-len.true (c.len-n.ensures.value ∙ sym (length_lines a.bytes (drop a.own a.pairs) a.records) ∙ ap length e ∙ length_lines b.bytes (drop b.own b.pairs) b.records ∙ sym c.len.ensures.value)),
     )
 
-pub returns-in-default : goal.returns-in-default
-returns-in-default c =
-    let past = none_past (content c.args.a.now).records c.loop-i.i (sym c.in-default.ensures) in
+pub returns-in_default : goal.returns-in_default
+returns-in_default c =
+    let past = none_past (content c.args.a.now).records c.loop-i.i (sym c.in_default.ensures) in
     absurd (omega (arith, past, c.len-n.ensures.value))
 
-pub returns-in-default-get : goal.returns-in-default-get
-returns-in-default-get c =
-    let past = none_past (content c.args.b.now).records c.loop-i.i (sym c.in-default-get.ensures) in
+pub returns-in_default-get : goal.returns-in_default-get
+returns-in_default-get c =
+    let past = none_past (content c.args.b.now).records c.loop-i.i (sym c.in_default-get.ensures) in
     absurd (omega (arith, past, c.len.ensures.value))
 
-pub returns-then-not-same-at : goal.returns-then-not-same-at
-returns-then-not-same-at c =
+pub returns-then-not-same_at : goal.returns-then-not-same_at
+returns-then-not-same_at c =
     let a = content c.args.a.now in
     let b = content c.args.b.now in
     let i = c.loop-i.i in (
       λ z. absurd (both_ways _ refl z),
       λ e. absurd (differ_step (lines_of a) (lines_of b) (lines a.bytes (drop c.loop-i.p a.pairs) (drop i a.records)) (lines b.bytes (drop c.loop-i.q b.pairs) (drop i b.records)) c.loop-i.invariant.0 _ _ _ _
           (line_on a c.loop-i.p i c.in-Some.x (sym c.in-Some.ensures)) (line_on b c.loop-i.q i c.in-Some-get.y (sym c.in-Some-get.ensures))
-          (λ s. both_ways _ c.if-not-same-at.true (c.same-at.ensures.1 s)) e),
+          (λ s. both_ways _ c.if-not-same_at.true (c.same_at.ensures.1 s)) e),
     )
 
 pub loop-i-preserved : goal.loop-i-preserved
@@ -41,11 +41,11 @@ loop-i-preserved c =
     let b = content c.args.b.now in
     let i = c.loop-i.i in (
       same_step (lines_of a) (lines_of b) (lines a.bytes (drop c.loop-i.p a.pairs) (drop i a.records)) (lines b.bytes (drop c.loop-i.q b.pairs) (drop i b.records)) c.loop-i.invariant.0 _ _ _ _
-          (line_to a c.loop-i.p i c.in-Some.x c.past-pairs-p.result c.past-pairs-p.ensures.value (sym c.in-Some.ensures))
-          (line_to b c.loop-i.q i c.in-Some-get.y c.past-pairs-q.result c.past-pairs-q.ensures.value (sym c.in-Some-get.ensures))
-          (c.same-at.ensures.0 c.if-not-same-at.false),
-      omega (arith, c.loop-i.invariant.1, c.past-pairs-p.ensures.bound),
-      omega (arith, c.loop-i.invariant.2, c.past-pairs-q.ensures.bound),
+          (line_to a c.loop-i.p i c.in-Some.x c.past_pairs-p.result c.past_pairs-p.ensures.value (sym c.in-Some.ensures))
+          (line_to b c.loop-i.q i c.in-Some-get.y c.past_pairs-q.result c.past_pairs-q.ensures.value (sym c.in-Some-get.ensures))
+          (c.same_at.ensures.0 c.if-not-same_at.false),
+      omega (arith, c.loop-i.invariant.1, c.past_pairs-p.ensures.bound),
+      omega (arith, c.loop-i.invariant.2, c.past_pairs-q.ensures.bound),
     )
 
 pub returns : goal.returns

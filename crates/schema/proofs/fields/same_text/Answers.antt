@@ -6,4 +6,4 @@ use Rattle.std.proofs.lemmas.Bool.Decides.{Decides-eqb}
 pub returns : goal.returns
 returns c =
     let d = slice_eq-Decides Decides-eqb _ _ _ c.eq.ensures in
-    (λ e. sym c.text-bytes.ensures ∙ d.0 e ∙ c.text-bytes-2.ensures, λ e. d.1 (c.text-bytes.ensures ∙ e ∙ sym c.text-bytes-2.ensures))
+    (λ e. sym c.text_bytes.ensures ∙ d.0 e ∙ c.text_bytes-2.ensures, λ e. d.1 (c.text_bytes.ensures ∙ e ∙ sym c.text_bytes-2.ensures))

@@ -24,22 +24,22 @@ returns-then-room-eq0 t c =
       behind = ap (λ t. t.records) (sym none);
     }
 
-pub returns-in-default : goal.returns-in-default
-returns-in-default t c =
+pub returns-in_default : goal.returns-in_default
+returns-in_default t c =
     let xs = (content c.args.sheet.now).records in
     let U = numbers_at (c.args.room - 1) in
     let ends = loop_ends (items c.args.out.now) (free c.args.out.now) (items c.loop-k.out) (free c.loop-k.out) xs c.args.room c.args.n c.loop-k.k c.args.from c.loop-k.at (omega arith) c.loop-k.invariant.0
-    (row_out U xs c.args.n c.loop-k.k c.loop-k.at (sym c.in-default.ensures)) c.loop-k.invariant.1 in
+    (row_out U xs c.args.n c.loop-k.k c.loop-k.at (sym c.in_default.ensures)) c.loop-k.invariant.1 in
     record { items = ends.0; free = ends.1; behind = ends.2 }
 
-pub overflow-add-at : goal.overflow-add-at
-overflow-add-at t c =
+pub overflow_add-at : goal.overflow_add-at
+overflow_add-at t c =
     let h : c.loop-k.at < length (content c.args.sheet.now).records = within (content c.args.sheet.now).records c.loop-k.at c.in-Some.x (sym c.in-Some.ensures) in
     let few : length (content c.args.sheet.now).records < 1025 = omega (arith, c.requires.few) in
     search rules
 
-pub lay-row-at-requires : goal.lay-row-at-requires
-lay-row-at-requires t c =
+pub lay_row-at-requires : goal.lay_row-at-requires
+lay_row-at-requires t c =
     let xs = (content c.args.sheet.now).records in
     let U = numbers_at (c.args.room - 1) in
     let room = loop_room (items c.args.out.now) (free c.args.out.now) (items c.loop-k.out) (free c.loop-k.out) xs c.args.room c.args.n c.loop-k.k c.args.from c.loop-k.at (omega arith) c.loop-k.invariant.0 c.requires.fits in
@@ -50,8 +50,8 @@ lay-row-at-requires t c =
     let few = c.requires.few in
     search rules
 
-pub lay-own-requires : goal.lay-own-requires
-lay-own-requires t c =
+pub lay_own-requires : goal.lay_own-requires
+lay_own-requires t c =
     let xs = (content c.args.sheet.now).records in
     let U = numbers_at (c.args.room - 1) in
     let own = own_number c.in-Some.x in
@@ -59,7 +59,7 @@ lay-own-requires t c =
     let nested = U c.in-Some.x.children (drop (c.loop-k.at + 1) xs) in
     let rest = (numbers_row U (c.args.n - (c.loop-k.k + 1)) nested.records).numbers in
     let step = ap (λ t. length t.numbers) (row_on U xs c.args.n c.loop-k.k c.loop-k.at c.in-Some.x c.loop-k-test.true (sym c.in-Some.ensures)) in
-    omega (arith, room, step, length-append nested.numbers (own ++ rest), length-append own rest, ap length c.lay-row-at.ensures.free, length-drop (length nested.numbers) (free c.loop-k.out))
+    omega (arith, room, step, length-append nested.numbers (own ++ rest), length-append own rest, ap length c.lay_row-at.ensures.free, length-drop (length nested.numbers) (free c.loop-k.out))
 
 pub loop-k-preserved : goal.loop-k-preserved
 loop-k-preserved t c =
@@ -69,11 +69,11 @@ loop-k-preserved t c =
     let nested = U c.in-Some.x.children (drop (c.loop-k.at + 1) xs) in
     let rest = (numbers_row U m nested.records).numbers in
     let on = row_on U xs c.args.n c.loop-k.k c.loop-k.at c.in-Some.x c.loop-k-test.true (sym c.in-Some.ensures) in
-    let here = ap (numbers_row U m) c.lay-row-at.ensures.behind in (
+    let here = ap (numbers_row U m) c.lay_row-at.ensures.behind in (
       one_step (items c.args.out.now) (free c.args.out.now) _ (items c.loop-k.out) (free c.loop-k.out) _ c.loop-k.invariant.0
           nested.numbers (own_number c.in-Some.x) _ _ _ _ _
           (ap (λ t. t.numbers) on ∙ ap (λ r. nested.numbers ++ (own_number c.in-Some.x ++ r.numbers)) (sym here))
-          c.lay-row-at.ensures.items c.lay-row-at.ensures.free c.lay-own.ensures.items c.lay-own.ensures.free,
+          c.lay_row-at.ensures.items c.lay_row-at.ensures.free c.lay_own.ensures.items c.lay_own.ensures.free,
       ap (λ t. t.records) here ∙ sym (ap (λ t. t.records) on) ∙ c.loop-k.invariant.1,
     )
 

@@ -5,8 +5,8 @@ use Rattle.schema.specs.Numbers.{numbers_row, numbers_at}
 use Rattle.schema.proofs.NumberSteps.{Progress}
 use Rattle.schema.proofs.numbers.+lay_row.Given as goal
 
-abbrev pub decreases-lay-row : goal.decreases-lay-row
-decreases-lay-row l = l.room
+abbrev pub decreases-lay_row : goal.decreases-lay_row
+decreases-lay_row l = l.room
 
 abbrev pub invariant-loop-k : goal.invariant-loop-k
 invariant-loop-k l =

@@ -6,7 +6,7 @@ use Rattle.schema.proofs.numbers.count_dictionaries.Goals as goal
 
 pub loop-x-preserved : goal.loop-x-preserved
 loop-x-preserved c = (
-  sum_more (λ (x : FieldRecord). length (own_number x)) c.args.records.now c.loop-x.x-index c.loop-x.count c.count-own-count.result _ _ c.loop-x-test.true c.count-own-count.ensures.value c.loop-x.invariant.0,
+  sum_more (λ (x : FieldRecord). length (own_number x)) c.args.records.now c.loop-x.x-index c.loop-x.count c.count_own-count.result _ _ c.loop-x-test.true c.count_own-count.ensures.value c.loop-x.invariant.0,
   omega arith,
 )
 
