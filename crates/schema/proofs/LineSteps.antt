@@ -1,12 +1,12 @@
 -- Steps over the lines of a sheet, and what they say of the schema that it holds.
-use Rattle.std.proofs.Common.{◌≡◌, ℕ, zero, suc, ◌+◌, ◌≤◌, Bool, List, [], ◌∷◌, ◌++◌, map, length, take, drop, ℤ, Some, None, Decides, sym, refl, ap, ◌∙◌, arith}
+use Rattle.std.proofs.Common.{◌≡◌, ℕ, zero, suc, ◌+◌, ◌≤◌, Bool, List, [], ◌∷◌, map, length, take, drop, ℤ, Some, None, Decides, sym, refl, ap, ◌∙◌, arith}
 use Rattle.std.specs.List.{slice_get}
-use Rattle.std.proofs.lemmas.List.{drop-drop, drop_all, map-append}
+use Rattle.std.proofs.lemmas.List.{drop-drop, drop_all}
 use Rattle.roll.proofs.Parted.{drop_at_some}
 use Rattle.types.specs.declared.Pair.{Pair}
 use Rattle.types.specs.declared.FieldRecord.{FieldRecord}
 use Rattle.sheet.specs.Contents.{Content}
-use Rattle.sheet.specs.Forests.{Forest, none, tree, width, counted, mapped_forest}
+use Rattle.sheet.specs.Forests.{Forest, counted}
 use Rattle.sheet.specs.Schemas.{Field, PairValue, Schema, Numbered, field_value, listed, Holds}
 use Rattle.schema.proofs.MappedRows.{counted_mapped}
 use Rattle.rules.proofs.Holding.{same_forest}

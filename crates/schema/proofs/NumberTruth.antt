@@ -1,13 +1,13 @@
 -- What the walk tells are the dictionary numbers of the schema that the sheet holds.
-use Rattle.std.proofs.Common.{◌≡◌, ℕ, zero, suc, ◌+◌, ◌-◌, ◌<◌, ◌≤◌, List, [], ◌∷◌, ◌++◌, map, length, drop, ℤ, Option, sym, refl, ap, ◌∙◌, arith}
+use Rattle.std.proofs.Common.{◌≡◌, ℕ, zero, suc, ◌+◌, ◌<◌, ◌≤◌, List, [], ◌∷◌, ◌++◌, map, length, drop, ℤ, Option, sym, refl, ap, ◌∙◌, arith}
 use Rattle.std.specs.Option.{option_map, option_to_list}
 use Rattle.std.specs.List.{AllByRecursion as All}
-use Rattle.std.proofs.lemmas.List.{append_assoc, length-append, map-append}
+use Rattle.std.proofs.lemmas.List.{append_assoc, length-append}
 use Rattle.std.proofs.lemmas.List.Sums.{sum_by-cons, sum_by-append}
 use Rattle.types.specs.declared.Pair.{Pair}
 use Rattle.types.specs.declared.FieldRecord.{FieldRecord}
 use Rattle.sheet.specs.Contents.{Content}
-use Rattle.sheet.specs.Forests.{Forest, none, tree, width, counted, mapped_forest}
+use Rattle.sheet.specs.Forests.{Forest, none, tree, width, mapped_forest}
 use Rattle.sheet.specs.Schemas.{Schema, Numbered, numbers_of, listed, Holds}
 use Rattle.rules.specs.Tables.{child_rule}
 use Rattle.rules.specs.Sites.{Row, plain, after, row_under, pairs_in, sites}

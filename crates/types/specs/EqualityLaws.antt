@@ -1,6 +1,5 @@
 -- Proofs that the tests of equality hold exactly where the values are equal. The impl of `PartialEq` cites them as its law.
-use Rattle.std.proofs.Common.{◌≡◌, ◌&&◌, Bool, true, false, true≢false, Option, None, Some, Decides, nat_eq, sym, refl, ap, ◌∙◌, subst}
-use Rattle.std.specs.Bool.{beq}
+use Rattle.std.proofs.Common.{◌≡◌, Bool, true, true≢false, Option, None, Some, Decides, nat_eq, sym, refl, ap, subst}
 use Rattle.std.specs.Ordering.{int_eq}
 use Rattle.std.specs.Option.{option_eq}
 use Rattle.std.specs.Cmp.{IsEquivalence, decided, signed_Decides, unsigned_Decides, booleans_Decides, first_so, second_so}

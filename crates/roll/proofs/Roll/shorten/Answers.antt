@@ -1,4 +1,4 @@
-use Rattle.std.proofs.Common.{◌+◌, ◌-◌, ◌≤◌, ◌++◌, length, take, drop, sym, refl, ap, arith}
+use Rattle.std.proofs.Common.{◌≤◌, ◌++◌, length, take, drop, sym, refl, ap, arith}
 use Rattle.std.proofs.lemmas.List.{length-take, take-take, take_all, drop_all}
 use Rattle.roll.proofs.Parted.{rest_is}
 use Rattle.roll.proofs.Roll.shorten.Goals as goal

@@ -1,4 +1,4 @@
-use Rattle.std.proofs.Common.{◌+◌, ◌-◌, sym, ap, ◌∙◌}
+use Rattle.std.proofs.Common.{◌+◌, sym, ap, ◌∙◌}
 use Rattle.std.proofs.lemmas.List.{take_rest}
 use Rattle.rules.specs.Tests.{every, pair_fits}
 use Rattle.rules.proofs.KeySteps.{differ_broken, differ_past, differ_done, lacks_later, every_drop}

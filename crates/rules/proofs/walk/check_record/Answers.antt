@@ -2,7 +2,7 @@ use Rattle.std.proofs.Common.{◌≡◌, ◌+◌, ◌-◌, length, take, drop, s
 use Rattle.std.proofs.lemmas.List.{length-drop}
 use Rattle.sheet.specs.Contents.{content}
 use Rattle.rules.specs.Models.{ahead, row_of}
-use Rattle.rules.specs.Verdict.{first_broken, text_rules, counts_fit}
+use Rattle.rules.specs.Verdict.{first_broken, text_rules}
 use Rattle.rules.proofs.RecordSteps.{counts_told, counts_say, broken_counts, broken_depth, broken_parameters, to_texts, at_ok}
 use Rattle.rules.proofs.walk.check_record.Goals as goal
 

@@ -2,7 +2,7 @@ use Rattle.std.proofs.Common.{◌≡◌, ◌-◌, ◌≤◌, length, take, sym, 
 use Rattle.std.proofs.lemmas.List.{length-drop}
 use Rattle.sheet.specs.Contents.{content}
 use Rattle.rules.specs.Models.{ahead}
-use Rattle.rules.specs.Verdict.{first_broken, own_rules, within_limits}
+use Rattle.rules.specs.Verdict.{first_broken, own_rules}
 use Rattle.rules.proofs.VerdictSteps.{closes}
 use Rattle.rules.proofs.walk.judge.Goals as goal
 
