@@ -1,6 +1,6 @@
 -- Each test of the check decides its rule.
 use Rattle.std.proofs.Common.{◌≡◌, ℕ, ◌+◌, ◌<◌, ◌≤◌, Bool, true, false, cond, not, ◌&&◌, eqb, leb, List, [], ◌∷◌, length, IfSome, Some, None, IsUtf8, Decides, Option, refl, ap, ◌∙◌, arith}
-use Rattle.std.specs.List.{AllByRecursion as All}
+use Rattle.std.specs.List.{AllByRecursion}
 use Rattle.std.specs.Str.{bytes_eq}
 use Rattle.std.proofs.lemmas.Slice.Eq.{bytes_eq-Decides}
 use Rattle.std.proofs.lemmas.Bool.{and_parts, and_from, or_parts, or_from, leb-true, le-leb, eqb-true, eqb-false, eq-eqb, ne_eqb, both_ways, not-true, not_from_false}
@@ -31,9 +31,9 @@ leb_decided a b = (leb-true a b, le-leb a b)
 eqb_decided : (a b : ℕ) → Decides (eqb a b) (a ≡ b)
 eqb_decided a b = (eqb-true a b, eq-eqb a b)
 
-pub every_decided : {A : Type 0} (P : A → Type 0) (test : A → Bool) → ((x : A) → Decides (test x) (P x)) → (xs : List A) → Decides (every test xs) (All P xs)
+pub every_decided : {A : Type 0} (P : A → Type 0) (test : A → Bool) → ((x : A) → Decides (test x) (P x)) → (xs : List A) → Decides (every test xs) (AllByRecursion P xs)
 every_decided P test d [] = (λ e. tt, λ a. refl)
-every_decided P test d (x ∷ xs) = and_decided (P x) (All P xs) (test x) (every test xs) (d x) (every_decided P test d xs)
+every_decided P test d (x ∷ xs) = and_decided (P x) (AllByRecursion P xs) (test x) (every test xs) (d x) (every_decided P test d xs)
 
 count_decided : (r : ChildRule) (n : ℕ) → Decides (count_fits r n) (CountFits r n)
 count_decided Leaf n = eqb_decided n 0
@@ -42,7 +42,7 @@ count_decided Two n = eqb_decided n 2
 count_decided Any n = (λ e. tt, λ u. refl)
 count_decided OfUnion n = leb_decided n 128
 
-new_decided : (id : ℕ) (ids : List ℕ) → Decides (not (among id ids)) (All (λ other. other ≡ id → ⊥) ids)
+new_decided : (id : ℕ) (ids : List ℕ) → Decides (not (among id ids)) (AllByRecursion (λ other. other ≡ id → ⊥) ids)
 new_decided id [] = (λ e. tt, λ a. refl)
 new_decided id (x ∷ xs) =
     let d = new_decided id xs in (
@@ -52,7 +52,7 @@ new_decided id (x ∷ xs) =
 
 id_decided : (row : Row) (id : ℕ) → Decides (id_fits row id) (IdFits row id)
 id_decided plain id = eqb_decided id 0
-id_decided (inside_union ids) id = and_decided (id ≤ 127) (All (λ other. other ≡ id → ⊥) ids) (leb id 127) (not (among id ids)) (leb_decided id 127) (new_decided id ids)
+id_decided (inside_union ids) id = and_decided (id ≤ 127) (AllByRecursion (λ other. other ≡ id → ⊥) ids) (leb id 127) (not (among id ids)) (leb_decided id 127) (new_decided id ids)
 
 zone_decided : (o : Option Text) → Decides (zone_fits o) (IfSome o (λ t. 0 < t.len))
 zone_decided None = (λ e. tt, λ u. refl)
@@ -81,23 +81,23 @@ module _ (bytes : List ℕ) where
         λ t. and_from _ _ (and_from _ _ (n.1 t.0) (z.1 t.1)) (p.1 t.2),
       )
 
-lacks_decided : (k : List ℕ) (ks : List (List ℕ)) → Decides (lacks k ks) (All (λ other. other ≡ k → ⊥) ks)
+lacks_decided : (k : List ℕ) (ks : List (List ℕ)) → Decides (lacks k ks) (AllByRecursion (λ other. other ≡ k → ⊥) ks)
 lacks_decided k ks = every_decided (λ other. other ≡ k → ⊥) (λ other. not (bytes_eq other k)) (λ other. not_decided (other ≡ k) (bytes_eq other k) (bytes_eq-Decides other k)) ks
 
 pub differ_decided : (ks : List (List ℕ)) → Decides (all_differ ks) (Differ ks)
 differ_decided [] = (λ e. tt, λ u. refl)
-differ_decided (k ∷ ks) = and_decided (All (λ other. other ≡ k → ⊥) ks) (Differ ks) (lacks k ks) (all_differ ks) (lacks_decided k ks) (differ_decided ks)
+differ_decided (k ∷ ks) = and_decided (AllByRecursion (λ other. other ≡ k → ⊥) ks) (Differ ks) (lacks k ks) (all_differ ks) (lacks_decided k ks) (differ_decided ks)
 
 -- No rule is broken where every test holds.
 passed : (b : Bool) (o : Option SheetRefusal) (e : SheetRefusal) → cond b o (Some e) ≡ None → (b ≡ true) × (o ≡ None)
 passed true o e h = (refl, h)
 passed false o e h = let z : ◌≡◌ {A = ℕ} 0 1 = cc in absurd (omega arith)
 
-pub unbroken : (rs : Rules) → first_broken rs ≡ None → All (λ r. r.0 ≡ true) rs
+pub unbroken : (rs : Rules) → first_broken rs ≡ None → AllByRecursion (λ r. r.0 ≡ true) rs
 unbroken [] e = tt
 unbroken (r ∷ rs) e = let p = passed r.0 (first_broken rs) r.1 e in (p.0, unbroken rs p.1)
 
-pub intact : (rs : Rules) → All (λ r. r.0 ≡ true) rs → first_broken rs ≡ None
+pub intact : (rs : Rules) → AllByRecursion (λ r. r.0 ≡ true) rs → first_broken rs ≡ None
 intact [] a = refl
 intact (r ∷ rs) a = ap (λ b. cond b (first_broken rs) (Some r.1)) a.0 ∙ intact rs a.1
 

@@ -1,6 +1,6 @@
 -- A walk that comes to its end has gone over a row of fields, and a walk over such a row comes to its end.
 use Rattle.std.proofs.Common.{◌≡◌, ℕ, zero, suc, ◌+◌, ◌-◌, ◌≤◌, List, [], ◌∷◌, ◌++◌, length, drop, Some, None, Ok, Err, Option, sym, refl, ap, ◌∙◌, subst, arith}
-use Rattle.std.specs.List.{AllByRecursion as All}
+use Rattle.std.specs.List.{AllByRecursion}
 use Rattle.std.proofs.lemmas.List.{append_assoc, length-append, length-drop, drop-drop}
 use Rattle.std.proofs.ByRecursion.{All-append}
 use Rattle.types.specs.declared.FieldRecord.{FieldRecord}
@@ -22,11 +22,11 @@ abbrev pub Right : Forest FieldRecord → Type 0
 Right none = Unit {0}
 Right (tree x kids rest) = (width kids ≡ x.children) × Right kids × Right rest
 
-pub all_left : {X : Type 0} (P : X → Type 0) (xs ys : List X) → All P (xs ++ ys) → All P xs
+pub all_left : {X : Type 0} (P : X → Type 0) (xs ys : List X) → AllByRecursion P (xs ++ ys) → AllByRecursion P xs
 all_left P [] ys a = tt
 all_left P (x ∷ xs) ys a = (a.0, all_left P xs ys a.1)
 
-pub all_right : {X : Type 0} (P : X → Type 0) (xs ys : List X) → All P (xs ++ ys) → All P ys
+pub all_right : {X : Type 0} (P : X → Type 0) (xs ys : List X) → AllByRecursion P (xs ++ ys) → AllByRecursion P ys
 all_right P [] ys a = a
 all_right P (x ∷ xs) ys a = all_right P xs ys a.1
 
@@ -61,7 +61,7 @@ module _ (bytes : List ℕ) where
     spelt : a.records ≡ preorder forest ++ b.records
     used : b.pairs ≡ drop (pairs_in forest) a.pairs
     few : pairs_in forest ≤ length a.pairs
-    sound : All Sound (sites (33 - d) row a.pairs forest)
+    sound : AllByRecursion Sound (sites (33 - d) row a.pairs forest)
 
   -- A walk over the field x, whose record was taken.
   record GrownOne (d : ℕ) (row : Row) (x : FieldRecord) (a b : Ahead) : Type 0 where
@@ -72,7 +72,7 @@ module _ (bytes : List ℕ) where
     used : b.pairs ≡ drop (pairs_in kids) (drop x.pairs a.pairs)
     few : x.pairs + pairs_in kids ≤ length a.pairs
     here : Sound (site_at d row x a)
-    below : All Sound (sites (suc (33 - d)) (row_under (child_rule x.data_type)) (drop x.pairs a.pairs) kids)
+    below : AllByRecursion Sound (sites (suc (33 - d)) (row_under (child_rule x.data_type)) (drop x.pairs a.pairs) kids)
 
   grown_row : (d : ℕ) → ((row : Row) (x : FieldRecord) (a b : Ahead) → walk_field bytes d row x a ≡ Ok b → GrownOne d row x a b)
       → (n : ℕ) (row : Row) (a b : Ahead) → walk_children (walk_field bytes d) n row a ≡ Ok b → Grown d row n a b
@@ -97,7 +97,7 @@ module _ (bytes : List ℕ) where
             ∙ drop-drop (pairs_in more.forest) (pairs_in first.kids) (drop x.pairs a.pairs)
             ∙ drop-drop (pairs_in first.kids + pairs_in more.forest) x.pairs a.pairs;
         few = omega (arith, first.few, more.few, ap length used, length-drop (pairs_in first.kids) (drop x.pairs a.pairs), length-drop x.pairs a.pairs);
-        sound = (first.here, All-append Sound _ _ first.below (subst (λ ps. All Sound (sites (33 - d) (after row x.type_id) ps more.forest)) used more.sound));
+        sound = (first.here, All-append Sound _ _ first.below (subst (λ ps. AllByRecursion Sound (sites (33 - d) (after row x.type_id) ps more.forest)) used more.sound));
       }
 
   grown_one : (d : ℕ) → d ≤ 32 → (row : Row) (x : FieldRecord) (a b : Ahead) → walk_field bytes d row x a ≡ Ok b → GrownOne d row x a b
@@ -115,7 +115,7 @@ module _ (bytes : List ℕ) where
         used = m.used;
         few = omega (arith, m.few, fits.pairs, length-drop x.pairs a.pairs);
         here = u.0;
-        below = subst (λ k. All Sound (sites k (row_under (child_rule x.data_type)) (drop x.pairs a.pairs) m.forest)) deeper m.sound;
+        below = subst (λ k. AllByRecursion Sound (sites k (row_under (child_rule x.data_type)) (drop x.pairs a.pairs) m.forest)) deeper m.sound;
       }
 
   -- A walk over all outermost fields.
@@ -125,7 +125,7 @@ module _ (bytes : List ℕ) where
     pub spelt : xs ≡ preorder forest
     pub used : b.pairs ≡ drop (pairs_in forest) ps
     pub few : pairs_in forest ≤ length ps
-    pub sound : All Sound (sites 1 plain ps forest)
+    pub sound : AllByRecursion Sound (sites 1 plain ps forest)
 
   pub grown_rows : (fuel : ℕ) (xs : List FieldRecord) (ps : List Pair) (b : Ahead) → length xs ≤ fuel → walk_row (walk_field bytes 32) fuel xs ps ≡ Ok b → Rows xs ps b
   grown_rows fuel [] ps b l h =
@@ -147,7 +147,7 @@ module _ (bytes : List ℕ) where
             ∙ drop-drop (pairs_in more.forest) (pairs_in first.kids) (drop x.pairs ps)
             ∙ drop-drop (pairs_in first.kids + pairs_in more.forest) x.pairs ps;
         few = omega (arith, first.few, more.few, ap length used, length-drop (pairs_in first.kids) (drop x.pairs ps), length-drop x.pairs ps);
-        sound = (first.here, All-append Sound _ _ first.below (subst (λ qs. All Sound (sites 1 plain qs more.forest)) used more.sound));
+        sound = (first.here, All-append Sound _ _ first.below (subst (λ qs. AllByRecursion Sound (sites 1 plain qs more.forest)) used more.sound));
       }
 
   -- The way back: over the field x and its children.
@@ -160,7 +160,7 @@ module _ (bytes : List ℕ) where
       ∙ ap (λ n. walk_children (walk_field bytes d) n (row_under (child_rule x.data_type)) (at (preorder kids ++ tail) (drop x.pairs ps))) (sym w)
       ∙ inner
 
-  walked : (f : Forest FieldRecord) (d : ℕ) (row : Row) (ps : List Pair) (tail : List FieldRecord) → d ≤ 32 → Right f → All Sound (sites (33 - d) row ps f)
+  walked : (f : Forest FieldRecord) (d : ℕ) (row : Row) (ps : List Pair) (tail : List FieldRecord) → d ≤ 32 → Right f → AllByRecursion Sound (sites (33 - d) row ps f)
       → walk_children (walk_field bytes d) (width f) row (at (preorder f ++ tail) ps) ≡ Ok (at tail (drop (pairs_in f) ps))
   walked none d row ps tail l right sound = refl
   walked (tree x kids rest) zero row ps tail l right sound = absurd (omega (arith, (fits_from bytes (record { head = x; depth = 33; row = row; left = ps }) sound.0).depth))
@@ -168,7 +168,7 @@ module _ (bytes : List ℕ) where
       let deeper : suc (33 - suc d) ≡ 33 - d = omega arith in
       let under = row_under (child_rule x.data_type) in
       let qs = drop x.pairs ps in
-      let below = subst (λ k. All Sound (sites k under qs kids)) deeper (all_left Sound (sites (suc (33 - suc d)) under qs kids) _ sound.1) in
+      let below = subst (λ k. AllByRecursion Sound (sites k under qs kids)) deeper (all_left Sound (sites (suc (33 - suc d)) under qs kids) _ sound.1) in
       let later = all_right Sound (sites (suc (33 - suc d)) under qs kids) _ sound.1 in
       let inner = walked kids d under qs (preorder rest ++ tail) (omega arith) right.1 below in
       let here = walked_one d row x kids ps (preorder rest ++ tail) right.0 sound.0 inner in
@@ -179,7 +179,7 @@ module _ (bytes : List ℕ) where
       ∙ outer
       ∙ ap (λ qs. Ok (at tail qs)) (drop-drop (pairs_in rest) (pairs_in kids) (drop x.pairs ps) ∙ drop-drop (pairs_in kids + pairs_in rest) x.pairs ps)
 
-  pub walked_rows : (f : Forest FieldRecord) (fuel : ℕ) (ps : List Pair) → length (preorder f) ≤ fuel → Right f → All Sound (sites 1 plain ps f)
+  pub walked_rows : (f : Forest FieldRecord) (fuel : ℕ) (ps : List Pair) → length (preorder f) ≤ fuel → Right f → AllByRecursion Sound (sites 1 plain ps f)
       → walk_row (walk_field bytes 32) fuel (preorder f) ps ≡ Ok (at [] (drop (pairs_in f) ps))
   walked_rows none fuel ps l right sound = refl
   walked_rows (tree x kids rest) zero ps l right sound = absurd (omega arith)

@@ -1,7 +1,7 @@
 -- The verdict is none exactly when the rules hold.
 use Rattle.std.proofs.Common.{◌≡◌, ℕ, ◌<◌, ◌≤◌, true, List, [], ◌∷◌, ◌++◌, map, length, take, drop, IfSome, Some, None, Ok, Err, Option, Result, sym, refl, ap, ◌∙◌, subst, arith}
 use Rattle.std.specs.Result as results
-use Rattle.std.specs.List.{AllByRecursion as All}
+use Rattle.std.specs.List.{AllByRecursion}
 use Rattle.std.proofs.lemmas.List.{map-append, length-drop}
 use Rattle.std.proofs.ByRecursion.{All-weaker, All-append}
 use Rattle.std.proofs.lemmas.Bool.{and_parts, and_from, leb-true, le-leb, eqb-true, eq-eqb}
@@ -40,11 +40,11 @@ plainly (x ∷ xs) = ap (λ l. x ∷ l) (plainly xs)
 abbrev SaysOwn : FieldRecord × ℕ → Type 0
 SaysOwn p = p.1 ≡ p.0.children
 
-all_say : (xs : List FieldRecord) → All SaysOwn (map with_count xs)
+all_say : (xs : List FieldRecord) → AllByRecursion SaysOwn (map with_count xs)
 all_say [] = tt
 all_say (x ∷ xs) = (refl, all_say xs)
 
-right_from : (f : Forest FieldRecord) → All SaysOwn (counted f) → Right f
+right_from : (f : Forest FieldRecord) → AllByRecursion SaysOwn (counted f) → Right f
 right_from none a = tt
 right_from (tree x kids rest) a = (a.0, right_from kids (all_left SaysOwn (counted kids) (counted rest) a.1), right_from rest (all_right SaysOwn (counted kids) (counted rest) a.1))
 
@@ -53,7 +53,7 @@ module _ (f : Forest FieldRecord) (xs : List FieldRecord) (e : counted f ≡ map
   spelt_by = sym (firsts f) ∙ ap (map (λ p. p.0)) e ∙ plainly xs
 
   pub right_by : Right f
-  right_by = right_from f (subst (All SaysOwn) (sym e) (all_say xs))
+  right_by = right_from f (subst (AllByRecursion SaysOwn) (sym e) (all_say xs))
 
 or_none : (o p : Option SheetRefusal) → or_else o p ≡ None → (o ≡ None) × (p ≡ None)
 or_none None p e = (refl, e)
@@ -65,7 +65,7 @@ closed_none (Err x) f e = let z : ◌≡◌ {A = ℕ} 0 1 = cc in absurd (omega 
 
 -- The fields of a rule on all sites.
 module _ (bytes : List ℕ) (ss : List Site) where
-  fits_all : All (Sound bytes) ss → All (Fits bytes) ss
+  fits_all : AllByRecursion (Sound bytes) ss → AllByRecursion (Fits bytes) ss
   fits_all = All-weaker (Sound bytes) (Fits bytes) (fits_from bytes) ss
 
 module _ (c : Content) where
@@ -102,7 +102,7 @@ module _ (c : Content) where
       }
 
 -- Where all pairs of a row are there, each field finds its own.
-pairs_at : (f : Forest FieldRecord) (k : ℕ) (row : Row) (ps : List Pair) → pairs_in f ≤ length ps → All (λ s. s.head.pairs ≤ length s.left) (sites k row ps f)
+pairs_at : (f : Forest FieldRecord) (k : ℕ) (row : Row) (ps : List Pair) → pairs_in f ≤ length ps → AllByRecursion (λ s. s.head.pairs ≤ length s.left) (sites k row ps f)
 pairs_at none k row ps h = tt
 pairs_at (tree x kids rest) k row ps h =
     let a = length-drop x.pairs ps in
@@ -116,15 +116,15 @@ pairs_at (tree x kids rest) k row ps h =
 -- All rules of each field together.
 module _ (bytes : List ℕ) where
   together : (ss : List Site)
-      → All (λ s. CountFits (child_rule s.head.data_type) s.head.children) ss
-      → All (λ s. s.head.pairs ≤ length s.left) ss
-      → All (λ s. s.depth ≤ max_depth) ss
-      → All (λ s. IdFits s.row s.head.type_id) ss
-      → All (λ s. unit_fits s.head.data_type ≡ true) ss
-      → All (λ s. IfSome (zone_of s.head.data_type) (λ t. 0 < t.len)) ss
-      → All (TextsFit bytes) ss
-      → All (λ s. Differ (keys bytes (site_pairs s))) ss
-      → All (Sound bytes) ss
+      → AllByRecursion (λ s. CountFits (child_rule s.head.data_type) s.head.children) ss
+      → AllByRecursion (λ s. s.head.pairs ≤ length s.left) ss
+      → AllByRecursion (λ s. s.depth ≤ max_depth) ss
+      → AllByRecursion (λ s. IdFits s.row s.head.type_id) ss
+      → AllByRecursion (λ s. unit_fits s.head.data_type ≡ true) ss
+      → AllByRecursion (λ s. IfSome (zone_of s.head.data_type) (λ t. 0 < t.len)) ss
+      → AllByRecursion (TextsFit bytes) ss
+      → AllByRecursion (λ s. Differ (keys bytes (site_pairs s))) ss
+      → AllByRecursion (Sound bytes) ss
   together [] a b c d e f g h = tt
   together (s ∷ ss) a b c d e f g h = (
     fits_to bytes s (record { count = a.0; pairs = b.0; depth = c.0; type_id = d.0; unit = e.0; zone = f.0; texts = g.0; keys_differ = h.0 }),
@@ -138,7 +138,7 @@ module _ (c : Content) (l : Lawful c) where
   after_own : length (drop c.own c.pairs) ≡ pairs_in l.fields
   after_own = omega (arith, l.pairs_used, length-drop c.own c.pairs)
 
-  sound : All (Sound c.bytes) (sites_of c l.fields)
+  sound : AllByRecursion (Sound c.bytes) (sites_of c l.fields)
   sound =
       together c.bytes (sites_of c l.fields) l.child_counts (pairs_at l.fields 1 plain (drop c.own c.pairs) (omega (arith, after_own))) l.shallow
       l.type_ids l.units l.zones l.texts l.keys_differ

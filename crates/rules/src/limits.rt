@@ -1,8 +1,7 @@
 //! The limits of a sheet, which are looked at before anything else.
-ghost use Rattle.std.specs.Prelude.{◌≡◌, ℕ, ◌+◌, ◌*◌, ◌^◌, ◌<◌, ◌≤◌, Bool, true, false, ◌&&◌, List, length, sum_by};
-ghost use Rattle.types.specs.Types.{zone_of};
-ghost use Rattle.sheet.specs.Contents.{Content, content};
-ghost use Rattle.rules.specs.Tests.{record_length, pair_length, zone_length, summed_lengths};
+ghost use Rattle.std.specs.Prelude.{◌≡◌, ◌^◌, ◌<◌, ◌≤◌, length, sum_by};
+ghost use Rattle.sheet.specs.Contents.{content};
+ghost use Rattle.rules.specs.Tests.{record_length, pair_length};
 ghost use Rattle.rules.specs.Verdict.{within_limits};
 
 use crate::tables::zone_of;

@@ -1,7 +1,7 @@
 //! The type ids of the fields before one in its row.
-ghost use Rattle.std.specs.Prelude.{◌≡◌, ℕ, ◌+◌, ◌<◌, ◌≤◌, Bool, true, false, cond, not, ◌&&◌, List, [], ◌∷◌, ◌++◌, length};
+ghost use Rattle.std.specs.Prelude.{◌≡◌};
 ghost use Rattle.rules.specs.Models.{row_of, ids_of, HasRoom};
-ghost use Rattle.rules.specs.Sites.{Row, plain, inside_union, row_under, after};
+ghost use Rattle.rules.specs.Sites.{plain, row_under, after};
 ghost use Rattle.rules.specs.Tests.{among, id_fits};
 
 use crate::tables::ChildRule;

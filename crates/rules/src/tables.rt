@@ -1,5 +1,5 @@
 //! What each type asks of its field, in one place.
-ghost use Rattle.std.specs.Prelude.{◌≡◌, ℕ, ◌≤◌, Bool, true, false};
+ghost use Rattle.std.specs.Prelude.{◌≡◌};
 ghost use Rattle.types.specs.Types.{zone_of};
 ghost use Rattle.rules.specs.Tables.{child_rule, count_fits, unit_fits};
 

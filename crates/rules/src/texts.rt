@@ -1,7 +1,6 @@
 //! The tests of texts: where they lie, that they are UTF-8, and that keys differ.
-ghost use Rattle.std.specs.Prelude.{◌≡◌, ℕ, ◌+◌, ◌*◌, ◌^◌, ◌<◌, ◌≤◌, Bool, true, false, ◌&&◌, List, map, length, IsUtf8 as Utf8Text, Decides};
-ghost use Rattle.types.specs.Types.{zone_of};
-ghost use Rattle.rules.specs.Tests.{is_utf8, text_fits, zone_text_fits, pair_fits, every, texts_fit, keys, lacks, all_differ};
+ghost use Rattle.std.specs.Prelude.{◌≡◌, true, IsUtf8 as Utf8Text, Decides};
+ghost use Rattle.rules.specs.Tests.{text_fits, zone_text_fits, pair_fits, every, texts_fit, keys, lacks, all_differ};
 
 use crate::tables::zone_of;
 use sheet::{first_with_text, text_bytes};

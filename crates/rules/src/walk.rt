@@ -1,12 +1,12 @@
 //! The check of a sheet: records in preorder, each by its own rules and then its children.
-ghost use Rattle.std.specs.Prelude.{◌≡◌, ℕ, ◌+◌, ◌-◌, ◌<◌, ◌≤◌, Bool, true, false, ◌&&◌, List, [], ◌∷◌, length, drop, IfOk, MatchResult, OnOk, nat_le};
-ghost use Rattle.sheet.specs.Contents.{Content, content};
+ghost use Rattle.std.specs.Prelude.{◌≡◌, ◌+◌, ◌<◌, ◌≤◌, true, ◌&&◌, length, drop, IfOk, MatchResult, OnOk, nat_le};
+ghost use Rattle.sheet.specs.Contents.{content};
 ghost use Rattle.sheet.specs.Schemas.{HoldsOne};
 ghost use Rattle.rules.specs.Tables.{child_rule, count_fits, unit_fits};
-ghost use Rattle.rules.specs.Sites.{plain, row_under};
-ghost use Rattle.rules.specs.Tests.{max_depth, id_fits, zone_fits};
+ghost use Rattle.rules.specs.Sites.{row_under};
+ghost use Rattle.rules.specs.Tests.{id_fits, zone_fits};
 ghost use Rattle.types.specs.Types.{zone_of};
-ghost use Rattle.rules.specs.Verdict.{first_broken, field_rules, text_rules, own_rules, site_at, walk_children, walk_field, walk_fields, walk_row, verdict};
+ghost use Rattle.rules.specs.Verdict.{first_broken, field_rules, text_rules, own_rules, site_at, walk_children, walk_field, walk_row, verdict};
 ghost use Rattle.rules.specs.Models.{row_of, ahead, walked, told, Few};
 ghost use Rattle.rules.specs.Lawful.{Lawful};
 

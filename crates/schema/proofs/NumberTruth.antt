@@ -1,7 +1,7 @@
 -- What the walk tells are the dictionary numbers of the schema that the sheet holds.
 use Rattle.std.proofs.Common.{◌≡◌, ℕ, zero, suc, ◌+◌, ◌<◌, ◌≤◌, List, [], ◌∷◌, ◌++◌, map, length, drop, ℤ, Option, sym, refl, ap, ◌∙◌, arith}
 use Rattle.std.specs.Option.{option_map, option_to_list}
-use Rattle.std.specs.List.{AllByRecursion as All}
+use Rattle.std.specs.List.{AllByRecursion}
 use Rattle.std.proofs.lemmas.List.{append_assoc, length-append}
 use Rattle.std.proofs.lemmas.List.Sums.{sum_by-cons, sum_by-append}
 use Rattle.types.specs.declared.Pair.{Pair}
@@ -32,7 +32,7 @@ abbrev pub numbers_in : Forest FieldRecord → List ℤ
 numbers_in f = gathered (mapped_forest own f)
 
 -- The walk over a row that is shallow enough.
-numbered : (f : Forest FieldRecord) (d k : ℕ) (row : Row) (ps : List Pair) (tail : List FieldRecord) → 33 ≤ k + d → Right f → All (λ s. s.depth ≤ 32) (sites k row ps f)
+numbered : (f : Forest FieldRecord) (d k : ℕ) (row : Row) (ps : List Pair) (tail : List FieldRecord) → 33 ≤ k + d → Right f → AllByRecursion (λ s. s.depth ≤ 32) (sites k row ps f)
     → numbers_at d (width f) (preorder f ++ tail) ≡ record { numbers = numbers_in f; records = tail }
 numbered none zero k row ps tail h right all = refl
 numbered none (suc d) k row ps tail h right all = refl
@@ -50,7 +50,7 @@ numbered (tree x kids rest) (suc d) k row ps tail h right all =
     ap (λ t. around t x (numbers_row (numbers_at d) (width rest))) first
     ∙ ap (λ t. record { numbers = numbers_in kids ++ (own_number x ++ t.numbers); records = t.records }) later
 
-numbered_row : (f : Forest FieldRecord) (m : ℕ) (ps : List Pair) → length (preorder f) ≤ m → Right f → All (λ s. s.depth ≤ 32) (sites 1 plain ps f)
+numbered_row : (f : Forest FieldRecord) (m : ℕ) (ps : List Pair) → length (preorder f) ≤ m → Right f → AllByRecursion (λ s. s.depth ≤ 32) (sites 1 plain ps f)
     → numbers_row (numbers_at 31) m (preorder f) ≡ record { numbers = numbers_in f; records = [] }
 numbered_row none zero ps h right all = refl
 numbered_row none (suc m) ps h right all = refl

@@ -1,6 +1,6 @@
 //! Whether two sheets hold alike schemas.
-ghost use Rattle.std.specs.Prelude.{◌≡◌, ℕ, ◌+◌, ◌*◌, ◌^◌, ◌≤◌, Bool, true, false, length, Some, Decides, MatchResult, OnOk};
-ghost use Rattle.sheet.specs.Contents.{Content, content};
+ghost use Rattle.std.specs.Prelude.{◌≡◌, ◌+◌, ◌^◌, ◌≤◌, length, Some, Decides, MatchResult, OnOk};
+ghost use Rattle.sheet.specs.Contents.{content};
 ghost use Rattle.rules.specs.Verdict.{verdict, or_else};
 ghost use Rattle.rules.specs.Lawful.{Lawful};
 ghost use Rattle.schema.specs.Lines.{line, lines_of, own_of};

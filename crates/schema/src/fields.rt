@@ -1,5 +1,5 @@
 //! Whether two records say the same field.
-ghost use Rattle.std.specs.Prelude.{◌≡◌, ℕ, Bool, true, false, List, map, Decides};
+ghost use Rattle.std.specs.Prelude.{◌≡◌, ℕ, map, Decides};
 ghost use Rattle.std.specs.Option.{option_map};
 ghost use Rattle.types.specs.Types.{type_value};
 ghost use Rattle.sheet.specs.Schemas.{Field, pair_value, encoding_value, field_value};

@@ -1,8 +1,7 @@
 //! The dictionary numbers of a sheet.
-ghost use Rattle.std.specs.Prelude.{◌≡◌, ℕ, ◌+◌, ◌-◌, ◌<◌, ◌≤◌, List, [], ◌∷◌, ◌++◌, length, drop, Some, MatchResult};
+ghost use Rattle.std.specs.Prelude.{◌≡◌, ◌≤◌, ◌++◌, length, drop, MatchResult};
 ghost use Rattle.roll.specs.Rolls.{items, free};
-ghost use Rattle.sheet.specs.Contents.{Content, content};
-ghost use Rattle.rules.specs.Verdict.{verdict};
+ghost use Rattle.sheet.specs.Contents.{content};
 ghost use Rattle.rules.specs.Lawful.{Lawful};
 ghost use Rattle.schema.specs.Numbers.{own_number, how_many, numbers_at};
 ghost use Rattle.schema.specs.Answers.{Laid, WhyNot};

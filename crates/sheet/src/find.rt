@@ -1,5 +1,5 @@
 //! One look-up for all elements that have a text: records by name, pairs by key.
-ghost use Rattle.std.specs.Prelude.{◌≡◌, ℕ, ◌+◌, ◌<◌, ◌≤◌, length, Decides};
+ghost use Rattle.std.specs.Prelude.{◌≡◌, Decides};
 ghost use Rattle.types.specs.declared.Text.{Text};
 ghost use Rattle.sheet.specs.Texts.{said, Spells, First};
 

@@ -1,7 +1,7 @@
 //! A sheet: three rolls over the caller's memory and the count of the schema's own pairs.
-ghost use Rattle.std.specs.Prelude.{◌≡◌, ℕ, ◌+◌, ◌^◌, ◌<◌, ◌≤◌, List, [], ◌∷◌, ◌++◌, length, drop, MatchOption, MatchResult, OnErr};
+ghost use Rattle.std.specs.Prelude.{◌≡◌, ◌^◌, ◌<◌, [], ◌++◌, length, drop, MatchOption, MatchResult, OnErr};
 ghost use Rattle.roll.specs.Rolls.{items, free};
-ghost use Rattle.sheet.specs.Contents.{Content, content};
+ghost use Rattle.sheet.specs.Contents.{content};
 ghost use Rattle.sheet.specs.Texts.{said, Within};
 
 use roll::{Full, Roll};
