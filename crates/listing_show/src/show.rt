@@ -65,7 +65,8 @@ fn show_parameters<W: fmt::Write>(
     t: DataType,
 ) -> fmt::Result {
     match t {
-        DataType::FixedSizeBinary(n) | DataType::FixedSizeList(n) => show_width(f, n),
+        DataType::FixedSizeBinary(n) => show_width(f, n),
+        DataType::FixedSizeList(n) => show_width(f, n),
         DataType::Time32(unit) | DataType::Time64(unit) | DataType::Duration(unit) => show_named(
             f,
             unit.name(),
@@ -74,8 +75,10 @@ fn show_parameters<W: fmt::Write>(
         DataType::Interval(unit) => show_named(f, unit.name()),
         DataType::Union(mode) => show_named(f, mode.name()),
         DataType::Map(sorted) => f.write_str(if sorted { "(sorted)" } else { "(unsorted)" }),
-        DataType::Decimal32(p, s) | DataType::Decimal64(p, s) => show_digits(f, p, s),
-        DataType::Decimal128(p, s) | DataType::Decimal256(p, s) => show_digits(f, p, s),
+        DataType::Decimal32(p, s) => show_digits(f, p, s),
+        DataType::Decimal64(p, s) => show_digits(f, p, s),
+        DataType::Decimal128(p, s) => show_digits(f, p, s),
+        DataType::Decimal256(p, s) => show_digits(f, p, s),
         _ => Ok(()),
     }
 }
