@@ -1,5 +1,5 @@
 -- What a sheet holds after one more pair or field.
-use Rattle.std.specs.Prelude.{◌≡◌, ℕ, ◌+◌, ◌-◌, List, [], ◌∷◌, ◌++◌, length, Some, None, Option, slice_set}
+use Rattle.std.specs.Prelude.{◌≡◌, ℕ, ◌+◌, List, [], ◌∷◌, ◌++◌, length, Some, None, Option, slice_set}
 use Rattle.std.specs.List.{slice_get}
 use Rattle.types.specs.declared.Text.{Text}
 use Rattle.types.specs.declared.Pair.{Pair}
