@@ -8,6 +8,7 @@ mod tests {
     use listing_words::fault::LineFault;
     use sheet::Sheet;
     use std::alloc::Global;
+    use std::process::Abort;
     use std::test::*;
     use types::{DataType, FieldRecord, Pair, Text};
 
@@ -48,9 +49,9 @@ mod tests {
         Ok(listing.to_string(heap)?)
     }
 
-    fn prints(rt: HostRuntime, read: &str, wanted: &str) -> Result<(), Fail> {
-        let got = relisted(rt.alloc(), read)?;
-        assert_eq!(got.as_str(), wanted);
+    fn prints(rt: &impl Abort, heap: Global, read: &str, wanted: &str) -> Result<(), Fail> {
+        let got = relisted(heap, read)?;
+        assert_eq!(rt; got.as_str(), wanted);
         Ok(())
     }
 
@@ -58,27 +59,27 @@ mod tests {
     fn plain_types(rt: HostRuntime) -> Result<(), Fail> {
         let text =
             "schema\nfield 1 \"\" Null nullable\nfield 1 \"\" Boolean nullable\nfield 1 \"\" Int8 nullable\nfield 1 \"\" Int16 nullable\nfield 1 \"\" Int32 nullable\nfield 1 \"\" Int64 nullable\nfield 1 \"\" UInt8 nullable\nfield 1 \"\" UInt16 nullable\nfield 1 \"\" UInt32 nullable\nfield 1 \"\" UInt64 nullable\nfield 1 \"\" Float16 nullable\nfield 1 \"\" Float32 nullable\nfield 1 \"\" Float64 nullable\nfield 1 \"\" Binary nullable\nfield 1 \"\" LargeBinary nullable\nfield 1 \"\" BinaryView nullable\nfield 1 \"\" Utf8 nullable\nfield 1 \"\" LargeUtf8 nullable\nfield 1 \"\" Utf8View nullable\nfield 1 \"\" Date32 nullable\nfield 1 \"\" Date64 nullable\nfield 1 \"\" List nullable\nfield 1 \"\" LargeList nullable\nfield 1 \"\" ListView nullable\nfield 1 \"\" LargeListView nullable\nfield 1 \"\" Struct nullable\nfield 1 \"\" RunEndEncoded nullable\n";
-        prints(rt, text, text)
+        prints(&rt, rt.alloc(), text, text)
     }
 
     #[test]
     fn types_with_parameters(rt: HostRuntime) -> Result<(), Fail> {
         let text =
             "schema\nfield 1 \"\" FixedSizeBinary(16) required\nfield 1 \"\" Time32(Second) required\nfield 1 \"\" Time64(Nanosecond) required\nfield 1 \"\" Timestamp(Millisecond) required\nfield 1 \"\" Timestamp(Microsecond, \"Europe/Oslo\") required\nfield 1 \"\" Interval(YearMonth) required\nfield 1 \"\" Interval(DayTime) required\nfield 1 \"\" Interval(MonthDayNano) required\nfield 1 \"\" Duration(Second) required\nfield 1 \"\" FixedSizeList(-3) required\nfield 1 \"\" Map(sorted) required\nfield 1 \"\" Map(unsorted) required\nfield 1 \"\" Decimal32(9, 2) required\nfield 1 \"\" Decimal64(18, -2) required\nfield 1 \"\" Decimal128(38, 0) required\nfield 1 \"\" Decimal256(76, 127) required\nfield 1 \"\" Union(Sparse) required\nfield 1 \"\" Union(Dense) required\n";
-        prints(rt, text, text)
+        prints(&rt, rt.alloc(), text, text)
     }
 
     #[test]
     fn nested_fields_and_pairs(rt: HostRuntime) -> Result<(), Fail> {
         let text =
             "schema\npair \"site\" \"north\"\nfield 1 \"rack\" Struct required\npair \"unit\" \"V\"\nfield 2 \"state\" Utf8 nullable dictionary(Int8, ordered, -7)\nfield 1 \"choice\" Union(Dense) required\nfield 2 \"low\" Int32 required id=5\nfield 2 \"high\" Int32 required id=0\nfield 1 \"odd\" Int8 required id=9\n";
-        prints(rt, text, text)
+        prints(&rt, rt.alloc(), text, text)
     }
 
     #[test]
     fn escapes(rt: HostRuntime) -> Result<(), Fail> {
         let text = "schema\npair \"\\\"\\\\\" \"\\x00\\x1f\\x7f\\xff\\xc3 \u{e9}\"\n";
-        prints(rt, text, text)
+        prints(&rt, rt.alloc(), text, text)
     }
 
     #[test]
@@ -86,7 +87,8 @@ mod tests {
         let read =
             " schema \r\n\n# a remark\n  field 1\t\"\\x41\"Decimal32( 9 ,2 )required dictionary(UInt64,unordered) id = 3\n";
         prints(
-            rt,
+            &rt,
+            rt.alloc(),
             read,
             "schema\nfield 1 \"A\" Decimal32(9, 2) required dictionary(UInt64, unordered, 0) id=3\n",
         )
