@@ -1,5 +1,4 @@
 //! The commands of a script that are no lines of a listing.
-ghost use Rattle.std.specs.Prelude.{◌≡◌};
 ghost use Rattle.gateway.specs.Commands.{command_name};
 
 use listing_words::fault::LineFault;
