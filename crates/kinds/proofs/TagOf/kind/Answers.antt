@@ -1,7 +1,6 @@
-use Rattle.std.proofs.Common.{◌≡◌, ◌-◌, ◌<◌, ◌≤◌, length, get_or, ℤ, pos, nat_abs, ◌≤ℤ◌, Some, sym, ap, ◌∙◌, ap₂, arith, w64, to_z, of_z}
+use Rattle.std.proofs.Common.{◌≡◌, ◌-◌, length, get_or, nat_abs, Some, ap, ◌∙◌, ap₂, arith, w64, to_z, of_z}
 use Rattle.std.proofs.lemmas.Int.{ints, to_z-of_z}
 use Rattle.kinds.specs.declared.Kind.TheVariants.{Schema}
-use Rattle.kinds.specs.Slots.{members}
 use Rattle.kinds.proofs.Tags.{tag_high, tag_in}
 use Rattle.kinds.proofs.TagOf.kind.Goals as goal
 
