@@ -1,13 +1,13 @@
 -- A place leads to at most one image, and to the same one in a store that grows.
-use Rattle.std.proofs.Common.{◌≡◌, List, [], ◌∷◌, map, Some, sym, refl, ap, ◌∙◌, subst, ap₂}
+use Rattle.std.proofs.Common.{◌≡◌, List, map, Some, refl, ap, subst, ap₂}
 use Rattle.kinds.specs.declared.Kind.{Kind}
 use Rattle.kinds.specs.declared.Sort.{Sort}
 use Rattle.kinds.specs.Slots.{sorts}
 use Rattle.store.specs.declared.place.TableAt.{TableAt}
 use Rattle.store.specs.declared.place.Slot.{Slot}
-use Rattle.store.specs.declared.place.Slot.TheVariants.{Absent, Number, Text, Table, List as Listed}
+use Rattle.store.specs.declared.place.Slot.TheVariants.{Absent, Table}
 use Rattle.store.specs.Meaning.{Meaning, Grows}
-use Rattle.store.specs.Images.{Image, end, absent, number, text, numbers, table, tables, each, Leads, at_end, to_none, to_number, to_text, to_numbers, to_table, to_chosen, to_tables, LeadsTo, OneImage, ImagesStay}
+use Rattle.store.specs.Images.{Image, absent, number, text, numbers, table, tables, each, Leads, at_end, to_none, to_number, to_text, to_numbers, to_table, to_chosen, to_tables, OneImage, ImagesStay}
 
 -- The same table has the same slots, also where a tag chose its kind.
 moved : {m : Meaning} {k k' : Kind} {l l' : List Slot} {y : Image} (p : TableAt) → k' ≡ k → m.table k p ≡ Some l → m.table k' p ≡ Some l' → Leads m Absent (sorts k') l' y → Leads m Absent (sorts k) l y
