@@ -1,7 +1,7 @@
 -- The loops that lay words, and what they have laid.
 use Rattle.std.proofs.Common.{◌≡◌, ℕ, ◌+◌, ◌-◌, ◌<◌, ◌≤◌, true, List, [], ◌∷◌, ◌++◌, length, get_or, take, drop, set, replicate, sym, refl, ap, ◌∙◌, subst, arith}
 use Rattle.std.proofs.lemmas.List.{length-take-le, length-drop, length-append, take-append-drop, take-take, get_or-drop, get_or-take, get_or-set_same, length-set, take-set-le, length-replicate, drop-drop, drop-set-lt, drop_more, append_assoc, set_at, replicate_more}
-use Rattle.word_layout.specs.Views.{View, seen}
+use Rattle.word_layout.specs.Views.{View}
 use Rattle.word_layout.specs.Words.{Laid, Lays}
 use Rattle.word_layout.proofs.Fills.{seen_from, below_set}
 

@@ -9,12 +9,10 @@ use Rattle.kinds.specs.declared.Kind.{Kind}
 use Rattle.kinds.specs.declared.Sort.TheVariants.{Text}
 use Rattle.store.specs.declared.place.Slot.{Slot}
 use Rattle.store.specs.declared.place.Slot.TheVariants.{Absent}
-use Rattle.store.specs.declared.place.TableAt.{TableAt}
-use Rattle.store.specs.Meaning.{Meaning, Grows, Nothing, Typed, Object, Place, the_text, the_tables, the_numbers, the_table, Stands, filled, slot_typed, slots_typed}
+use Rattle.store.specs.Meaning.{Grows, Nothing, Typed, Object, Place, the_text, the_tables, the_numbers, the_table, Stands, filled, slot_typed, slots_typed}
 use Rattle.store.specs.State.{Sound, Fresh, Puts, Refuses, Cuts, held, most}
 use Rattle.store.specs.declared.refusal.StoreRefusal.TheVariants.{RoomTooSmall, Misfilled}
 use Rattle.store.proofs.Typing.{typed_from, typed_length}
-use Rattle.word_layout.specs.Lists.{list_size}
 use Rattle.word_layout.specs.Views.{View, seen, standing, element, le_bytes, text_view, tables_view, numbers_view, table_view, bit, raw_of, Placed}
 use Rattle.word_layout.specs.Words.{words_meaning, words_state, words_price, limit, used_words, bytes, Lays, LaysIf, TableLaid, table_head}
 use Rattle.word_layout.proofs.Listing.{list_inside, list_small}

@@ -1,6 +1,6 @@
 -- How an object is read off a row of words: a head word, and the words behind it.
 use Rattle.std.specs.Prelude.{ℕ, ◌+◌, ◌*◌, ◌/◌, ◌%◌, ◌^◌, ◌<◌, Bool, cond, ◌&&◌, List, [], ◌∷◌, map, length, ℤ, pos, Some, None, Option, ◌==◌, nat_lt, slice_index, slice_index_or}
-use Rattle.std.proofs.Common.{to_z, of_z, SFits}
+use Rattle.std.proofs.Common.{to_z, of_z}
 use Rattle.std.specs.Int.{w16, w32, w64}
 use Rattle.std.specs.List.{range_with_len}
 use Rattle.std.specs.Option.{option_map}

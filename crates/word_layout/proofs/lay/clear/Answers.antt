@@ -1,4 +1,4 @@
-use Rattle.std.proofs.Common.{◌≡◌, ◌-◌, ◌<◌, ◌≤◌, ◌++◌, length, take, drop, replicate, sym, ap, ◌∙◌, arith}
+use Rattle.std.proofs.Common.{◌≡◌, ◌-◌, ◌++◌, take, drop, replicate, sym, ap, ◌∙◌, arith}
 use Rattle.word_layout.proofs.Laying.{clear_none, clear_more}
 use Rattle.word_layout.proofs.lay.clear.Goals as goal
 

@@ -12,7 +12,7 @@ loop-k-init c = laid_none _ _ _
 pub loop-k-preserved : goal.loop-k-preserved
 loop-k-preserved c =
     let xs = c.args.bytes.now in
-    lay_more c.args.words.now c.args.at _ ((length xs + 7) / 8) (λ j w. le_bytes w ≡ map (λ b. get_or xs (8 * j + b) 0) (range_with_len 0 8)) c.loop-k.words c.loop-k.k _ (let p = c.requires in omega arith) (omega arith) c.loop-k.invariant c.text-word.ensures
+    lay_more c.args.words.now c.args.at _ ((length xs + 7) / 8) (λ j w. le_bytes w ≡ map (λ b. get_or xs (8 * j + b) 0) (range_with_len 0 8)) c.loop-k.words c.loop-k.k _ (let p = c.requires in omega arith) (omega arith) c.loop-k.invariant c.text_word.ensures
 
 pub returns : goal.returns
 returns c =

@@ -2,11 +2,11 @@ use Rattle.std.proofs.Common.{length, arith}
 use Rattle.word_layout.proofs.Listing.{list_below, list_holds}
 use Rattle.word_layout.proofs.list.list_word.Goals as goal
 
-pub offset-bounds-list-k : goal.offset-bounds-list-k
-offset-bounds-list-k g c = let h = list_below (length c.args.list.now) c.args.k c.requires in omega arith
+pub offset_bounds-list-k : goal.offset_bounds-list-k
+offset_bounds-list-k g c = let h = list_below (length c.args.list.now) c.args.k c.requires in omega arith
 
 pub bounds-list-k : goal.bounds-list-k
 bounds-list-k g c = list_below (length c.args.list.now) c.args.k c.requires
 
 pub returns : goal.returns
-returns g c = list_holds g.E.Element.of c.args.list.now c.args.k c.bits.result c.index-list-k.result c.bits.type-inv c.bits.ensures c.index-list-k.is
+returns g c = list_holds g.E.Element.of c.args.list.now c.args.k c.bits.result c.index-list-k.result c.bits.type_inv c.bits.ensures c.index-list-k.is

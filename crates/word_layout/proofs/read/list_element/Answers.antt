@@ -1,5 +1,5 @@
 use Rattle.std.proofs.Common.{◌≡◌, ℕ, ◌+◌, ◌/◌, ◌<◌, List, length, get_or, drop, Some, sym, ap, ◌∙◌, arith, rules}
-use Rattle.word_layout.specs.Lists.{list_part, list_word, list_size}
+use Rattle.word_layout.specs.Lists.{list_part, list_word}
 use Rattle.word_layout.specs.Views.{list_view, standing}
 use Rattle.word_layout.proofs.Listing.{list_inside}
 use Rattle.word_layout.proofs.Sights.{reach, pick_at, pick_past}
@@ -8,14 +8,14 @@ use Rattle.word_layout.proofs.read.list_element.Goals as goal
 reached : {X : Type 0} (of : ℕ → X) (mark : ℕ) (ws : List ℕ) (p h i w : ℕ) → Some h ≡ standing (list_view of mark) (drop p ws) → i < h / 8 → w ≡ list_word i → p + 1 + w < length ws
 reached of mark ws p h i w e l q = let r = reach (list_view of mark) ws p h e in let b = list_inside (h / 8) i l in omega arith
 
-pub overflow-add-w-then-i-h : goal.overflow-add-w-then-i-h
-overflow-add-w-then-i-h g c = let r = reached g.E.Element.of g.E.Element.mark c.args.words.now c.args.at.0 c.in-Some.h c.args.i c.word-of.result c.in-Some.ensures c.if-i-h.true c.word-of.ensures in search rules
+pub overflow_add-w-then-i-h : goal.overflow_add-w-then-i-h
+overflow_add-w-then-i-h g c = let r = reached g.E.Element.of g.E.Element.mark c.args.words.now c.args.at.0 c.in-Some.h c.args.i c.word_of.result c.in-Some.ensures c.if-i-h.true c.word_of.ensures in search rules
 
-pub offset-bounds-words-at : goal.offset-bounds-words-at
-offset-bounds-words-at g c = let r = reached g.E.Element.of g.E.Element.mark c.args.words.now c.args.at.0 c.in-Some.h c.args.i c.word-of.result c.in-Some.ensures c.if-i-h.true c.word-of.ensures in search rules
+pub offset_bounds-words-at : goal.offset_bounds-words-at
+offset_bounds-words-at g c = let r = reached g.E.Element.of g.E.Element.mark c.args.words.now c.args.at.0 c.in-Some.h c.args.i c.word_of.result c.in-Some.ensures c.if-i-h.true c.word_of.ensures in search rules
 
 pub bounds-words-at : goal.bounds-words-at
-bounds-words-at g c = reached g.E.Element.of g.E.Element.mark c.args.words.now c.args.at.0 c.in-Some.h c.args.i c.word-of.result c.in-Some.ensures c.if-i-h.true c.word-of.ensures
+bounds-words-at g c = reached g.E.Element.of g.E.Element.mark c.args.words.now c.args.at.0 c.in-Some.h c.args.i c.word_of.result c.in-Some.ensures c.if-i-h.true c.word_of.ensures
 
 pub returns-then-i-h : goal.returns-then-i-h
 returns-then-i-h g c =
@@ -23,7 +23,7 @@ returns-then-i-h g c =
     let ws = c.args.words.now in
     let i = c.args.i in
     let p = c.args.at.0 in
-    ap Some (c.of-bits.ensures ∙ ap of (c.part-of.ensures ∙ ap (λ k. list_part i (get_or ws (p + 1 + k) 0)) c.word-of.ensures))
+    ap Some (c.of_bits.ensures ∙ ap of (c.part_of.ensures ∙ ap (λ k. list_part i (get_or ws (p + 1 + k) 0)) c.word_of.ensures))
     ∙ pick_at (list_view of g.E.Element.mark) ws p c.in-Some.h i c.in-Some.ensures c.if-i-h.true
 
 pub returns-else-i-h : goal.returns-else-i-h

@@ -8,7 +8,7 @@ bounds-words-at c = let r = reach text_view c.args.words.now c.args.at.0 c.in-So
 
 pub returns-then-i-h : goal.returns-then-i-h
 unfolding le_bytes
-returns-then-i-h c = let e = pick_at text_view c.args.words.now c.args.at.0 c.in-Some.h c.args.i c.in-Some.ensures (omega arith) in ap (λ l. Some (get_or l (c.args.i % 8) 0)) c.to-le-bytes.ensures ∙ e
+returns-then-i-h c = let e = pick_at text_view c.args.words.now c.args.at.0 c.in-Some.h c.args.i c.in-Some.ensures (omega arith) in ap (λ l. Some (get_or l (c.args.i % 8) 0)) c.to_le_bytes.ensures ∙ e
 
 pub returns-else-i-h : goal.returns-else-i-h
 returns-else-i-h c = sym (pick_past text_view (drop c.args.at.0 c.args.words.now) c.in-Some.h c.args.i (sym c.in-Some.ensures) (omega arith))
