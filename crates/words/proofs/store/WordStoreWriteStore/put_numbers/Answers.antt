@@ -1,4 +1,4 @@
-use Rattle.std.proofs.Common.{◌+◌, length, refl, arith}
+use Rattle.std.proofs.Common.{◌+◌, length, refl}
 use Rattle.store.specs.Meaning.{the_numbers}
 use Rattle.word_layout.specs.Lists.{list_size}
 use Rattle.word_layout.specs.Views.{numbers_view}
@@ -20,6 +20,6 @@ returns-in-None c =
     let l = c.args.numbers.now in
     let h = c.in-None.ensures in
     record {
-      puts = put_none s.words.now c.list.new.words s.used c.len-from.result (1 + list_size (length l)) c.numbers-price.result (the_numbers l) c.len-from.ensures h.0 h.1 refl c.numbers-price.ensures refl;
+      puts = put_none s.words.now c.list.new.words s.used c.len-from.result (1 + list_size (length l)) c.numbers_price.result (the_numbers l) c.len-from.ensures h.0 h.1 refl c.numbers_price.ensures refl;
       agrees = rows_shown c.list.new.words s.used;
     }

@@ -1,4 +1,4 @@
-use Rattle.std.proofs.Common.{◌+◌, ◌/◌, length, refl, arith}
+use Rattle.std.proofs.Common.{◌+◌, ◌/◌, length, refl}
 use Rattle.store.specs.Meaning.{the_text}
 use Rattle.word_layout.specs.Views.{text_view}
 use Rattle.word_layout.proofs.Rows.{put_some, put_none, rows_shown}
@@ -19,6 +19,6 @@ returns-in-None c =
     let t = c.args.bytes.now in
     let h = c.in-None.ensures in
     record {
-      puts = put_none s.words.now c.text.new.words s.used c.len-from.result (1 + (length t + 7) / 8) c.text-price.result (the_text t) c.len-from.ensures h.0 h.1 refl c.text-price.ensures refl;
+      puts = put_none s.words.now c.text.new.words s.used c.len-from.result (1 + (length t + 7) / 8) c.text_price.result (the_text t) c.len-from.ensures h.0 h.1 refl c.text_price.ensures refl;
       agrees = rows_shown c.text.new.words s.used;
     }
