@@ -1,9 +1,9 @@
 //! A store over the caller's words.
 #![tactic(auto)]
 
-pub mod store;
 pub mod view;
+pub mod word_store;
 pub mod worked;
 
-pub use store::WordStore;
 pub use view::WordView;
+pub use word_store::WordStore;

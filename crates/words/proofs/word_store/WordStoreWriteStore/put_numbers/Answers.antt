@@ -3,7 +3,7 @@ use Rattle.store.specs.Meaning.{the_numbers}
 use Rattle.word_layout.specs.Lists.{list_size}
 use Rattle.word_layout.specs.Views.{numbers_view}
 use Rattle.word_layout.proofs.Rows.{put_some, put_none, rows_shown}
-use Rattle.words.proofs.store.WordStoreWriteStore.put_numbers.Goals as goal
+use Rattle.words.proofs.word_store.WordStoreWriteStore.put_numbers.Goals as goal
 
 pub returns-in-Some : goal.returns-in-Some
 returns-in-Some c =

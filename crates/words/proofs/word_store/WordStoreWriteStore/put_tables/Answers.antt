@@ -3,7 +3,7 @@ use Rattle.store.specs.Meaning.{the_tables}
 use Rattle.word_layout.specs.Lists.{list_size}
 use Rattle.word_layout.specs.Views.{tables_view}
 use Rattle.word_layout.proofs.Rows.{put_some, put_none, put_misfilled, rows_shown}
-use Rattle.words.proofs.store.WordStoreWriteStore.put_tables.Goals as goal
+use Rattle.words.proofs.word_store.WordStoreWriteStore.put_tables.Goals as goal
 
 pub returns-then-not-tables_fit : goal.returns-then-not-tables_fit
 returns-then-not-tables_fit c =

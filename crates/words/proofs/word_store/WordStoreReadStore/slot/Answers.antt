@@ -2,7 +2,7 @@ use Rattle.std.proofs.Common.{◌≡◌, ◌-◌, take, drop, ap, ◌∙◌, ari
 use Rattle.store.specs.Meaning.{picked}
 use Rattle.word_layout.specs.Views.{seen, table_view}
 use Rattle.word_layout.specs.Words.{used_words}
-use Rattle.words.proofs.store.WordStoreReadStore.slot.Goals as goal
+use Rattle.words.proofs.word_store.WordStoreReadStore.slot.Goals as goal
 
 pub returns : goal.returns
 returns c =

@@ -1,7 +1,7 @@
 use Rattle.std.proofs.Common.{◌≡◌, ◌-◌, ◌++◌, take, drop, replicate, ap, ◌∙◌, arith}
 use Rattle.word_layout.specs.Words.{limit}
 use Rattle.word_layout.proofs.Rows.{rows_fresh}
-use Rattle.words.proofs.store.WordStore.new.Goals as goal
+use Rattle.words.proofs.word_store.WordStore.new.Goals as goal
 
 pub returns : goal.returns
 returns c =

@@ -1,7 +1,7 @@
 use Rattle.std.proofs.Common.{◌-◌, ◌/◌, ◌++◌, take, drop, replicate, ap, ◌∙◌, arith}
 use Rattle.std.proofs.lemmas.Bool.Decides.{nat_tests}
 use Rattle.word_layout.proofs.Rows.{rows_cut, rows_shown}
-use Rattle.words.proofs.store.WordStoreWriteStore.cut.Goals as goal
+use Rattle.words.proofs.word_store.WordStoreWriteStore.cut.Goals as goal
 
 pub returns-then-height-eq0 : goal.returns-then-height-eq0
 returns-then-height-eq0 c =

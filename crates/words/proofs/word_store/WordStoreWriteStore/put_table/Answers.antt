@@ -6,7 +6,7 @@ use Rattle.store.proofs.Typing.{fits_typed, typed_length}
 use Rattle.word_layout.specs.Views.{table_view}
 use Rattle.word_layout.specs.Words.{words_meaning, used_words}
 use Rattle.word_layout.proofs.Rows.{put_some, put_none, put_misfilled, table_lays, rows_shown}
-use Rattle.words.proofs.store.WordStoreWriteStore.put_table.Goals as goal
+use Rattle.words.proofs.word_store.WordStoreWriteStore.put_table.Goals as goal
 
 pub returns-then-not-slots_fit : goal.returns-then-not-slots_fit
 returns-then-not-slots_fit c =

@@ -2,7 +2,7 @@ use Rattle.std.proofs.Common.{◌+◌, ◌/◌, length, refl}
 use Rattle.store.specs.Meaning.{the_text}
 use Rattle.word_layout.specs.Views.{text_view}
 use Rattle.word_layout.proofs.Rows.{put_some, put_none, rows_shown}
-use Rattle.words.proofs.store.WordStoreWriteStore.put_text.Goals as goal
+use Rattle.words.proofs.word_store.WordStoreWriteStore.put_text.Goals as goal
 
 pub returns-in-Some : goal.returns-in-Some
 returns-in-Some c =
