@@ -1,5 +1,5 @@
 //! What may be asked of every store, and what may be put in a store that is written.
-ghost use Rattle.std.specs.Prelude.{◌≡◌, ℕ, length, is_some};
+ghost use Rattle.std.specs.Prelude.{◌≡◌, length, is_some};
 ghost use Rattle.std.specs.Option.{option_map};
 ghost use Rattle.store.specs.Meaning.{Meaning, Typed, picked, the_text, the_tables, the_numbers, the_table};
 ghost use Rattle.store.specs.State.{State, Sound, Put, Cut, held, room};

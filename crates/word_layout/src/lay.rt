@@ -1,5 +1,5 @@
 //! Lays objects in a row of words, as far as they fit in the words that a store may use.
-ghost use Rattle.std.specs.Prelude.{◌≡◌, ℕ, ◌+◌, ◌-◌, ◌/◌, ◌^◌, ◌<◌, ◌≤◌, ◌++◌, length, take, drop, replicate, nat_le};
+ghost use Rattle.std.specs.Prelude.{◌≡◌, ◌+◌, ◌-◌, ◌/◌, ◌≤◌, ◌++◌, length, take, drop, replicate, nat_le};
 ghost use Rattle.kinds.specs.Slots.{sorts};
 ghost use Rattle.word_layout.specs.Lists.{list_size};
 ghost use Rattle.word_layout.specs.Views.{text_view, list_view};

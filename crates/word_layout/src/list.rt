@@ -1,8 +1,7 @@
 //! How the elements of a list lie in words. All that knows of it stands in this file.
-ghost use Rattle.std.specs.Prelude.{◌≡◌, ℕ, ◌<◌, ◌≤◌, length};
+ghost use Rattle.std.specs.Prelude.{◌≡◌, ℕ, ◌<◌, length};
 ghost use Rattle.std.proofs.Common.{to_z};
 ghost use Rattle.std.specs.Int.{w32};
-ghost use Rattle.store.specs.declared.place.TableAt.{TableAt};
 ghost use Rattle.word_layout.specs.Lists.{list_size, list_word, list_part, ListWord};
 ghost use Rattle.word_layout.specs.Views.{table_at};
 

@@ -1,5 +1,5 @@
 //! Questions to a row of words. Any place may be asked of.
-ghost use Rattle.std.specs.Prelude.{◌≡◌, ℕ, ◌<◌, length, drop, is_some, nat_lt, slice_index};
+ghost use Rattle.std.specs.Prelude.{◌≡◌, ◌<◌, length, drop, is_some, nat_lt, slice_index};
 ghost use Rattle.std.specs.Option.{option_map};
 ghost use Rattle.store.specs.Meaning.{picked};
 ghost use Rattle.word_layout.specs.Views.{standing, seen, text_view, list_view, table_view, table_mark, number_of, bit, slot_of};

@@ -1,5 +1,4 @@
 //! Words that are only read.
-ghost use Rattle.std.specs.Prelude.{◌≡◌};
 ghost use Rattle.word_layout.specs.Words.{words_meaning};
 ghost use Rattle.word_layout.proofs.Rows.{rows_typed};
 

@@ -1,5 +1,5 @@
 //! A store that is read and written, over the caller's words from the front.
-ghost use Rattle.std.specs.Prelude.{◌≡◌, ℕ, ◌*◌, take};
+ghost use Rattle.std.specs.Prelude.{◌≡◌, ◌*◌, take};
 ghost use Rattle.store.specs.State.{Fresh};
 ghost use Rattle.word_layout.specs.Words.{words_meaning, words_state, limit, used_words};
 ghost use Rattle.word_layout.proofs.Rows.{rows_sound, rows_typed};
