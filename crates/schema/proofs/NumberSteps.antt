@@ -8,8 +8,8 @@ use Rattle.schema.specs.Numbers.{Told, around, numbers_row, numbers_at}
 
 -- A list with its free places behind it, on the way from one to another: `rest` is still to be added of `all`.
 abbrev pub Progress : List ℤ → List ℤ → List ℤ → List ℤ → List ℤ → List ℤ → Type 0
-Progress start free₀ now-items now-free rest all =
-    (now-items ++ rest ≡ start ++ all) × (length start ≤ length now-items) × (now-free ≡ drop (length now-items - length start) free₀)
+Progress start free₀ now_items now_free rest all =
+    (now_items ++ rest ≡ start ++ all) × (length start ≤ length now_items) × (now_free ≡ drop (length now_items - length start) free₀)
 
 module _ (start free₀ all : List ℤ) where
   pub at_start : (rest : List ℤ) → rest ≡ all → Progress start free₀ start free₀ rest all

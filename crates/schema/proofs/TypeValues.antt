@@ -98,54 +98,54 @@ back f (Union m) = inr refl
 
 -- What a type other than a timestamp says does not hang on any text.
 same_value : (f g : Text → List ℕ) (t : DataType) → (Stamp t → ⊥) → type_value f t ≡ type_value g t
-same_value f g Null no-stamp = refl
-same_value f g Boolean no-stamp = refl
-same_value f g Int8 no-stamp = refl
-same_value f g Int16 no-stamp = refl
-same_value f g Int32 no-stamp = refl
-same_value f g Int64 no-stamp = refl
-same_value f g UInt8 no-stamp = refl
-same_value f g UInt16 no-stamp = refl
-same_value f g UInt32 no-stamp = refl
-same_value f g UInt64 no-stamp = refl
-same_value f g Float16 no-stamp = refl
-same_value f g Float32 no-stamp = refl
-same_value f g Float64 no-stamp = refl
-same_value f g Binary no-stamp = refl
-same_value f g LargeBinary no-stamp = refl
-same_value f g BinaryView no-stamp = refl
-same_value f g Utf8 no-stamp = refl
-same_value f g LargeUtf8 no-stamp = refl
-same_value f g Utf8View no-stamp = refl
-same_value f g (FixedSizeBinary n) no-stamp = refl
-same_value f g Date32 no-stamp = refl
-same_value f g Date64 no-stamp = refl
-same_value f g (Time32 u) no-stamp = refl
-same_value f g (Time64 u) no-stamp = refl
-same_value f g (Timestamp u z) no-stamp = absurd (no-stamp (u, z, refl))
-same_value f g (Interval u) no-stamp = refl
-same_value f g (Duration u) no-stamp = refl
-same_value f g ListType no-stamp = refl
-same_value f g LargeList no-stamp = refl
-same_value f g ListView no-stamp = refl
-same_value f g LargeListView no-stamp = refl
-same_value f g (FixedSizeList n) no-stamp = refl
-same_value f g Struct no-stamp = refl
-same_value f g RunEndEncoded no-stamp = refl
-same_value f g (Map s) no-stamp = refl
-same_value f g (Decimal32 p s) no-stamp = refl
-same_value f g (Decimal64 p s) no-stamp = refl
-same_value f g (Decimal128 p s) no-stamp = refl
-same_value f g (Decimal256 p s) no-stamp = refl
-same_value f g (Union m) no-stamp = refl
+same_value f g Null no_stamp = refl
+same_value f g Boolean no_stamp = refl
+same_value f g Int8 no_stamp = refl
+same_value f g Int16 no_stamp = refl
+same_value f g Int32 no_stamp = refl
+same_value f g Int64 no_stamp = refl
+same_value f g UInt8 no_stamp = refl
+same_value f g UInt16 no_stamp = refl
+same_value f g UInt32 no_stamp = refl
+same_value f g UInt64 no_stamp = refl
+same_value f g Float16 no_stamp = refl
+same_value f g Float32 no_stamp = refl
+same_value f g Float64 no_stamp = refl
+same_value f g Binary no_stamp = refl
+same_value f g LargeBinary no_stamp = refl
+same_value f g BinaryView no_stamp = refl
+same_value f g Utf8 no_stamp = refl
+same_value f g LargeUtf8 no_stamp = refl
+same_value f g Utf8View no_stamp = refl
+same_value f g (FixedSizeBinary n) no_stamp = refl
+same_value f g Date32 no_stamp = refl
+same_value f g Date64 no_stamp = refl
+same_value f g (Time32 u) no_stamp = refl
+same_value f g (Time64 u) no_stamp = refl
+same_value f g (Timestamp u z) no_stamp = absurd (no_stamp (u, z, refl))
+same_value f g (Interval u) no_stamp = refl
+same_value f g (Duration u) no_stamp = refl
+same_value f g ListType no_stamp = refl
+same_value f g LargeList no_stamp = refl
+same_value f g ListView no_stamp = refl
+same_value f g LargeListView no_stamp = refl
+same_value f g (FixedSizeList n) no_stamp = refl
+same_value f g Struct no_stamp = refl
+same_value f g RunEndEncoded no_stamp = refl
+same_value f g (Map s) no_stamp = refl
+same_value f g (Decimal32 p s) no_stamp = refl
+same_value f g (Decimal64 p s) no_stamp = refl
+same_value f g (Decimal128 p s) no_stamp = refl
+same_value f g (Decimal256 p s) no_stamp = refl
+same_value f g (Union m) no_stamp = refl
 
-module _ (f g : Text → List ℕ) (s t : DataType) (not-stamp : Stamp s → ⊥) where
+module _ (f g : Text → List ℕ) (s t : DataType) (not_stamp : Stamp s → ⊥) where
   home : bare (type_value f s) ≡ s
-  home = ⊎_elim (λ p. absurd (not-stamp p)) (λ e. e) (back f s)
+  home = ⊎_elim (λ p. absurd (not_stamp p)) (λ e. e) (back f s)
 
   stamped : Stamp t → bare (type_value g t) ≡ s → ⊥
   unfolding bare
-  stamped p e = not-stamp (p.0, None, sym e ∙ ap (λ x. bare (type_value g x)) p.2)
+  stamped p e = not_stamp (p.0, None, sym e ∙ ap (λ x. bare (type_value g x)) p.2)
 
   same_type : type_value f s ≡ type_value g t → s ≡ t
   same_type e =
@@ -153,4 +153,4 @@ module _ (f g : Text → List ℕ) (s t : DataType) (not-stamp : Stamp s → ⊥
       ⊎_elim (λ p. absurd (stamped p there)) (λ b. sym there ∙ b) (back g t)
 
   pub plain_type : (r : Bool) → Decides r (s ≡ t) → Decides r (type_value f s ≡ type_value g t)
-  plain_type r d = (λ e. same_value f g s not-stamp ∙ ap (type_value g) (d.0 e), λ e. d.1 (same_type e))
+  plain_type r d = (λ e. same_value f g s not_stamp ∙ ap (type_value g) (d.0 e), λ e. d.1 (same_type e))

@@ -11,12 +11,12 @@ abbrev pub TellsAlike : Content → Content → Bool → Type 0
 TellsAlike a b r = (s t : Schema) (m n : List ℤ) → Holds a s m → Holds b t n → Decides r (s ≡ t)
 
 -- The dictionary numbers of a sheet's schema were added to a roll behind what stood there.
-pub record Laid (c : Content) (items-before free-before items-after free-after : List ℤ) : Type 0 where
+pub record Laid (c : Content) (items_before free_before items_after free_after : List ℤ) : Type 0 where
   pub schema : Schema
   pub numbers : List ℤ
   pub holds : Holds c schema numbers
-  pub items : items-after ≡ items-before ++ numbers
-  pub free : free-after ≡ drop (length numbers) free-before
+  pub items : items_after ≡ items_before ++ numbers
+  pub free : free_after ≡ drop (length numbers) free_before
 
 -- Why numbers are not told: the sheet breaks a rule, or the roll has fewer free places than there are numbers.
 abbrev pub WhyNot : Content → ℕ → NumbersRefusal → Type 0
