@@ -97,13 +97,15 @@ def main():
     together = collections.defaultdict(set)
     for it in list(names) + list(table):
         together[table.get(it, it)].add(it)
+    clashes = [f"of a library too: {', '.join(bad)}"] if bad else []
     for new, olds in sorted(together.items()):
         if len(olds) > 1:
-            print("fall together:", new, "from", ", ".join(sorted(olds)))
+            clashes.append(f"fall together: {new} from {', '.join(sorted(olds))}")
         elif olds != {new} and new in outside:
-            print("falls on a library's name:", new, names[next(iter(olds))])
-    if bad:
-        print("of a library too:", ", ".join(bad))
+            clashes.append(f"falls on a library's name: {new} {names[next(iter(olds))]}")
+    if clashes:
+        print("\n".join(clashes))
+        return 1
     if "--list" in sys.argv:
         for old in sorted(table):
             print(old, "->", table[old], names[old][0])
