@@ -61,6 +61,12 @@ module _ {X : Type 0} (from n : ℕ) (xs : List X) (a size : ℕ) (start : a ≡
   pub clipped : take ((a + size) - a) (drop a xs) ≡ take n (drop from xs)
   clipped = ⊎_elim (λ h. inside (omega arith)) outside (cases_lt from (length xs))
 
+-- Where no element stands.
+pub past_end : {X : Type 0} (xs : List X) (i : ℕ) → slice_get xs i ≡ None → length xs ≤ i
+past_end [] i e = omega arith
+past_end (x ∷ xs) zero e = let z : ◌≡◌ {A = ℕ} 0 1 = cc in absurd (omega arith)
+past_end (x ∷ xs) (suc i) e = let h = past_end xs i e in omega arith
+
 -- What is left of a list from one element on.
 pub drop_at_none : {X : Type 0} (xs : List X) (i : ℕ) → slice_get xs i ≡ None → drop i xs ≡ []
 drop_at_none [] zero e = refl

@@ -3,13 +3,13 @@
 
 ghost use Rattle.std.specs.Prelude.{◌≡◌, ◌+◌, ◌<◌, ◌≤◌, [], ◌∷◌, ◌++◌, length, take, drop, MatchResult, OnErr, nat_lt, slice_set};
 ghost use Rattle.std.specs.List.{slice_get};
-ghost use Rattle.roll.specs.Rolls.{items, free};
 
 /// Elements in the caller's memory, in order: the first places are used, the others are free.
 #[derive(Drop)]
 pub struct Roll<'a, T> {
     places: &'a mut [T],
     used: usize,
+    ghost within: { used ≤ length places.now },
 }
 
 /// A roll has no place left for what was to be added.
@@ -37,20 +37,20 @@ fn store_all<T: Copy>(s: &mut [T], at: usize, xs: &[T])
 pub fn fetch<T: Copy>(s: &[T], i: usize) -> Option<T>
     ensures { result ≡ slice_get s.now i }
 {
-    let n = s.len();
-    if i < n { Some(s[i]) } else { None }
+    s.get(i).copied()
 }
 
 /// The `n` elements from a place on, as far as the slice has them.
 pub fn part<T>(s: &[T], from: usize, n: usize) -> &[T]
     ensures { result.now ≡ take n (drop from s.now) }
 {
-    let start = from.min(s.len());
-    let size = n.min(s.len() - start);
-    &s[start..start + size]
+    let rest = &s[from.min(s.len())..];
+    &rest[..n.min(rest.len())]
 }
 
 impl<'a, T: Copy> Roll<'a, T> {
+    ghost use Rattle.roll.specs.Rolls.{items, free};
+
     /// A roll over the caller's places, none of them used.
     pub fn new(places: &'a mut [T]) -> Roll<'a, T>
         ensures items { items result ≡ [] }
@@ -65,8 +65,7 @@ impl<'a, T: Copy> Roll<'a, T> {
         ensures value { result ≡ length (items self.now) }
         ensures bound { result ≤ length (items self.now) + length (free self.now) }
     {
-        let n = self.places.len();
-        if self.used < n { self.used } else { n }
+        self.as_slice().len()
     }
 
     /// How many places there are, used and free.
@@ -80,34 +79,26 @@ impl<'a, T: Copy> Roll<'a, T> {
     pub fn get(&self, i: usize) -> Option<T>
         ensures { result ≡ slice_get (items self.now) i }
     {
-        if i < self.used {
-            fetch(self.places, i)
-        } else {
-            None
-        }
+        fetch(self.as_slice(), i)
     }
 
     /// The elements in order.
     pub fn as_slice(&self) -> &[T]
         ensures { result.now ≡ items self.now }
     {
-        let n = self.len();
-        &self.places[0..n]
+        &self.places[..self.used]
     }
 
-    /// Puts another element at a used place; false, and nothing is changed, at any other.
-    pub fn replace(&mut self, i: usize, x: T) -> bool
-        ensures done { result ≡ nat_lt i (length (items self.old)) }
+    /// Puts another element at a used place, and gives the one that stood there; none, and nothing is changed, at any other.
+    pub fn replace(&mut self, i: usize, x: T) -> Option<T>
+        ensures before { result ≡ slice_get (items self.old) i }
         ensures items { items self.new ≡ slice_set (items self.old) i x }
         ensures free { free self.new ≡ free self.old }
         ensures lender { self.new.places.ghost_name ≡ self.old.places.ghost_name }
     {
-        if i < self.len() {
-            store(self.places, i, x);
-            true
-        } else {
-            false
-        }
+        let before = self.get(i)?;
+        store(self.places, i, x);
+        Some(before)
     }
 
     /// Keeps the first `n` elements. The places set free hold what they held.
@@ -147,9 +138,8 @@ impl<'a, T: Copy> Roll<'a, T> {
         ensures free { MatchResult result (λ _. free self.new ≡ drop (length xs.now) (free self.old)) (λ _. free self.new ≡ free self.old) }
         ensures lender { self.new.places.ghost_name ≡ self.old.places.ghost_name }
     {
-        let at = self.len();
-        let room = self.places.len() - at;
-        if xs.len() <= room {
+        let at = self.used;
+        if xs.len() <= self.places.len() - at {
             store_all(self.places, at, xs);
             self.used = at + xs.len();
             Ok(())
