@@ -1,3 +1,2 @@
 pub mod Equality
-pub mod EqualityLaws
 pub mod Types
