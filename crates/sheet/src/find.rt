@@ -1,7 +1,7 @@
 //! One look-up for all elements that have a text: records by name, pairs by key.
-ghost use Rattle.std.specs.Prelude.{◌≡◌, Decides};
+ghost use Rattle.std.specs.Prelude.{◌≡◌, Decides, MatchOption};
 ghost use Rattle.types.specs.declared.Text.{Text};
-ghost use Rattle.sheet.specs.Texts.{said, Spells, First};
+ghost use Rattle.sheet.specs.Texts.{said, Within, Spells, First};
 
 use roll::part;
 use types::{FieldRecord, Pair, Text};
@@ -39,26 +39,24 @@ pub fn text_bytes(bytes: &[u8], t: Text) -> &[u8]
     part(bytes, t.start as usize, t.len as usize)
 }
 
+/// The bytes of a text, or none where it leaves the text bytes.
+pub fn text_in(bytes: &[u8], t: Text) -> Option<&[u8]>
+    ensures { MatchOption result (Within bytes.now t → ⊥) (λ s. Within bytes.now t × (s.now ≡ said bytes.now t)) }
+{
+    let start = t.start as usize;
+    bytes.get(start..start + t.len as usize)
+}
+
 /// Whether a text says just these bytes; one that leaves the text bytes never does.
 pub fn spells(bytes: &[u8], t: Text, wanted: &[u8]) -> bool
     ensures { Decides result (Spells bytes.now t wanted.now) }
 {
-    let start = t.start as usize;
-    let end = start + t.len as usize;
-    if end > bytes.len() {
-        return false;
-    }
-    &bytes[start..end] == wanted
+    text_in(bytes, t).is_some_and(|s| s == wanted)
 }
 
 /// The place of the first element whose text says just these bytes.
-pub fn first_with_text<E: HasText + Copy>(items: &[E], bytes: &[u8], wanted: &[u8]) -> Option<usize>
+pub fn first_with_text<E: HasText>(items: &[E], bytes: &[u8], wanted: &[u8]) -> Option<usize>
     ensures { First (λ e. Spells bytes.now (E.HasText.label e) wanted.now) items.now result }
 {
-    for (i, e) in items.iter().enumerate() {
-        if spells(bytes, e.text(), wanted) {
-            return Some(i);
-        }
-    }
-    None
+    items.iter().position(|e| spells(bytes, e.text(), wanted))
 }

@@ -4,5 +4,5 @@
 pub mod find;
 pub mod memory;
 
-pub use find::{HasText, first_with_text, spells, text_bytes};
+pub use find::{HasText, first_with_text, spells, text_bytes, text_in};
 pub use memory::Sheet;

@@ -4,6 +4,7 @@ ghost use Rattle.roll.specs.Rolls.{items, free};
 ghost use Rattle.sheet.specs.Contents.{content};
 ghost use Rattle.sheet.specs.Texts.{said, Within};
 
+use crate::find::text_in;
 use roll::{Full, Roll};
 use types::{FieldRecord, Pair, Text};
 
@@ -41,13 +42,7 @@ impl<'a> Sheet<'a> {
     pub fn text_of(&self, t: Text) -> Option<&[u8]>
         ensures { MatchOption result (Within (content self.now).bytes t → ⊥) (λ s. Within (content self.now).bytes t × (s.now ≡ said (content self.now).bytes t)) }
     {
-        let bytes = self.text.as_slice();
-        let start = t.start as usize;
-        let end = start + t.len as usize;
-        if end > bytes.len() {
-            return None;
-        }
-        Some(&bytes[start..end])
+        text_in(self.text.as_slice(), t)
     }
 
     /// Adds a text's bytes behind the used ones and tells where they stand; refused, with nothing changed, where they find no place.
@@ -58,16 +53,10 @@ impl<'a> Sheet<'a> {
         ensures pairs { self.new.pairs ≡ self.old.pairs }
         ensures own { self.new.own_pairs ≡ self.old.own_pairs }
     {
-        let start = self.text.len();
-        let len = bytes.len();
-        if start > u32::MAX as usize || len > u32::MAX as usize {
-            return Err(Full);
-        }
+        let start = u32::try_from(self.text.len()).map_err(|_| Full)?;
+        let len = u32::try_from(bytes.len()).map_err(|_| Full)?;
         self.text.add_all(bytes)?;
-        Ok(Text {
-            start: start as u32,
-            len: len as u32,
-        })
+        Ok(Text { start, len })
     }
 
     /// Takes everything off the sheet. The places hold what they held.
