@@ -19,7 +19,7 @@ use Rattle.rules.specs.Verdict.{Ahead, Walked, first_broken, within_limits, limi
 use Rattle.rules.specs.Models.{told}
 use Rattle.rules.proofs.Decided.{Fits, fits_from, fits_to, unbroken, intact, every_decided, pair_decided, differ_decided}
 use Rattle.rules.proofs.Grown.{preorder, Right, Sound, grown_rows, walked_rows, all_left, all_right}
-use Rattle.rules.proofs.VerdictSteps.{closes}
+use Rattle.rules.proofs.VerdictSteps.{by_walk}
 
 -- Between a row and the records that spell it.
 spell : (f : Forest FieldRecord) → Right f → counted f ≡ map with_count (preorder f)
@@ -152,7 +152,7 @@ module _ (c : Content) (l : Lawful c) where
   pub lawful_to : verdict c ≡ None
   lawful_to =
       let used = length-drop (pairs_in l.fields) (drop c.own c.pairs) in
-      closes c (record { records = []; pairs = drop (pairs_in l.fields) (drop c.own c.pairs) }) kept (omega (arith, l.pairs_used)) ends
+      by_walk c kept (omega (arith, l.pairs_used)) (Ok (record { records = []; pairs = drop (pairs_in l.fields) (drop c.own c.pairs) })) ends
       ∙ intact (own_rules c.bytes (take c.own c.pairs) (length (drop (pairs_in l.fields) (drop c.own c.pairs)))) (
         (every_decided (PairFits c.bytes) (pair_fits c.bytes) (pair_decided c.bytes) (take c.own c.pairs)).1 l.own_texts,
         (

@@ -1,14 +1,13 @@
 -- Steps of the test that keys differ.
-use Rattle.std.proofs.Common.{◌≡◌, ℕ, zero, suc, ◌+◌, ◌-◌, ◌<◌, ◌≤◌, Bool, true, false, not, ◌&&◌, List, [], ◌∷◌, length, get_or, take, drop, is_some, Some, None, Option, sym, refl, ap, ◌∙◌, ⊎_elim, arith}
+use Rattle.std.proofs.Common.{◌≡◌, ℕ, zero, suc, Bool, true, false, not, List, [], ◌∷◌, length, is_some, Some, None, Option, sym, refl, ap, ◌∙◌, ⊎_elim, arith}
 use Rattle.std.specs.List.{slice_get}
 use Rattle.std.specs.Str.{bytes_eq}
 use Rattle.std.proofs.lemmas.Slice.Eq.{bytes_eq-Decides}
-use Rattle.std.proofs.lemmas.List.{at_drop_more, at_drop_all, take_rest}
 use Rattle.std.proofs.lemmas.Bool.{and_parts, and_from, and_left, and_right, leb-true, cases_Bool, not_from_true, not_from_false}
 use Rattle.types.specs.declared.Text.{Text}
 use Rattle.types.specs.declared.Pair.{Pair}
 use Rattle.sheet.specs.Texts.{said, Within, Spells, NoneBefore, First}
-use Rattle.rules.specs.Tests.{text_fits, pair_fits, every, keys, lacks, all_differ}
+use Rattle.rules.specs.Tests.{text_fits, pair_fits, every, keys, lacks}
 
 module _ (bytes : List ℕ) where
   pub text_within : (t : Text) → text_fits bytes t ≡ true → Within bytes t
@@ -37,30 +36,6 @@ module _ (bytes : List ℕ) where
     pub lacks_told : (ps : List Pair) (r : Option ℕ) → every (pair_fits bytes) ps ≡ true → First (λ p. Spells bytes p.key key) ps r → not (is_some r) ≡ lacks key (keys bytes ps)
     lacks_told ps None fit f = sym (lacks_none ps fit f)
     lacks_told ps (Some j) fit f = sym (lacks_found ps j f.0.0 f.0.1 f.0.2.1)
-
--- The test that keys differ, from one pair on.
-module _ (bytes : List ℕ) (ps : List Pair) (i : ℕ) (d : Pair) (h : i < length ps) where
-  split : all_differ (keys bytes (drop i ps)) ≡ (lacks (said bytes (get_or ps i d).key) (keys bytes (drop (i + 1) ps)) && all_differ (keys bytes (drop (i + 1) ps)))
-  split = at_drop_more (λ xs. all_differ (keys bytes xs)) ps i d h
-
-  pub lacks_later : (r : Bool) (k : List ℕ) → k ≡ said bytes (get_or ps i d).key → r ≡ lacks k (keys bytes (take (length ps - (i + 1)) (drop (i + 1) ps)))
-      → lacks (said bytes (get_or ps i d).key) (keys bytes (drop (i + 1) ps)) ≡ r
-  lacks_later r k e f =
-      ap (λ y. lacks y (keys bytes (drop (i + 1) ps))) (sym e) ∙ ap (λ xs. lacks k (keys bytes xs)) (sym (take_rest ps (i + 1))) ∙ sym f
-
-  pub differ_broken : lacks (said bytes (get_or ps i d).key) (keys bytes (drop (i + 1) ps)) ≡ false → all_differ (keys bytes (drop i ps)) ≡ false
-  differ_broken e = split ∙ ap (λ b. b && all_differ (keys bytes (drop (i + 1) ps))) e
-
-  pub differ_past : lacks (said bytes (get_or ps i d).key) (keys bytes (drop (i + 1) ps)) ≡ true → all_differ (keys bytes (drop (i + 1) ps)) ≡ all_differ (keys bytes (drop i ps))
-  differ_past e = sym (split ∙ ap (λ b. b && all_differ (keys bytes (drop (i + 1) ps))) e)
-
-pub differ_done : (bytes : List ℕ) (ps : List Pair) (i : ℕ) → length ps ≤ i → all_differ (keys bytes (drop i ps)) ≡ true
-differ_done bytes ps i h = at_drop_all (λ xs. all_differ (keys bytes xs)) ps i h
-
-pub every_drop : {A : Type 0} (test : A → Bool) (n : ℕ) (xs : List A) → every test xs ≡ true → every test (drop n xs) ≡ true
-every_drop test zero xs e = e
-every_drop test (suc n) [] e = e
-every_drop test (suc n) (x ∷ xs) e = every_drop test n xs (and_parts (test x) (every test xs) e).1
 
 pub not_not : (b : Bool) → not (not b) ≡ b
 not_not true = refl

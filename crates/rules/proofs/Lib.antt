@@ -3,7 +3,6 @@ pub mod Utf8
 mod TextSteps
 mod KeySteps
 pub mod SumSteps
-mod RecordSteps
 mod WalkSteps
 mod VerdictSteps
 mod Decided

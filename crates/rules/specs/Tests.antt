@@ -1,6 +1,7 @@
 -- The tests of the check, each a computation.
-use Rattle.std.specs.Prelude.{ℕ, ◌+◌, Bool, true, false, not, ◌&&◌, ◌||◌, List, [], ◌∷◌, map, length, Some, None, sum_by, Option, ◌==◌, nat_le}
+use Rattle.std.specs.Prelude.{ℕ, ◌+◌, Bool, true, not, ◌&&◌, List, [], ◌∷◌, map, length, Some, None, sum_by, Option, ◌==◌, nat_le}
 use Rattle.std.proofs.Math.Utf8.{scalars, encodes}
+use Rattle.std.specs.List.{list_all, list_any}
 use Rattle.std.specs.Str.{chars, bytes_eq}
 use Rattle.types.specs.declared.Text.{Text}
 use Rattle.types.specs.declared.Pair.{Pair}
@@ -44,8 +45,7 @@ summed_lengths c = sum_by record_length c.records + sum_by pair_length c.pairs
 
 -- A type id does for a row: 0, or in a union at most 127 and new.
 abbrev pub among : ℕ → List ℕ → Bool
-among id [] = false
-among id (x ∷ xs) = x == id || among id xs
+among id ids = list_any (λ other. other == id) ids
 
 abbrev pub id_fits : Row → ℕ → Bool
 id_fits plain id = id == 0
@@ -73,8 +73,7 @@ pair_fits bytes p = text_fits bytes p.key && text_fits bytes p.value
 
 -- A test holds of each element.
 abbrev pub every : {A : Type 0} → (A → Bool) → List A → Bool
-every test [] = true
-every test (x ∷ xs) = test x && every test xs
+every test xs = list_all test xs
 
 -- The texts of a record with these pairs.
 abbrev pub texts_fit : List ℕ → FieldRecord → List Pair → Bool

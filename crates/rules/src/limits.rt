@@ -1,5 +1,5 @@
 //! The limits of a sheet, which are looked at before anything else.
-ghost use Rattle.std.specs.Prelude.{◌≡◌, ◌^◌, ◌<◌, ◌≤◌, length, sum_by};
+ghost use Rattle.std.specs.Prelude.{◌≡◌, ℕ, ◌^◌, ◌<◌, ◌≤◌, length, sum_by};
 ghost use Rattle.sheet.specs.Contents.{content};
 ghost use Rattle.rules.specs.Tests.{record_length, pair_length};
 ghost use Rattle.rules.specs.Verdict.{within_limits};
@@ -15,60 +15,48 @@ pub const MAX_PAIRS: usize = 1024;
 
 pub const MAX_BYTES: usize = 32768;
 
-// The lengths of a record's texts.
-fn record_length(head: FieldRecord) -> usize
-    ensures value { result ≡ record_length head }
-    ensures bound { result < 2 ^ 33 }
-{
-    match zone_of(head.data_type) {
-        None => head.name.len as usize,
-        Some(zone) => head.name.len as usize + zone.len as usize,
+// What has texts of some lengths.
+trait Lengths {
+    ghost length: { Self → ℕ };
+
+    // The lengths of its texts together.
+    fn length(&self) -> usize
+        ensures value { result ≡ length self.now }
+        ensures bound { result < 2 ^ 33 };
+}
+
+impl Lengths for FieldRecord {
+    ghost length = { record_length };
+
+    fn length(&self) -> usize {
+        self.name.len as usize + zone_of(self.data_type).map_or(0, |zone| zone.len as usize)
     }
 }
 
-// The lengths of a pair's texts.
-fn pair_length(p: Pair) -> usize
-    ensures value { result ≡ pair_length p }
-    ensures bound { result < 2 ^ 33 }
-{
-    p.key.len as usize + p.value.len as usize
+impl Lengths for Pair {
+    ghost length = { pair_length };
+
+    fn length(&self) -> usize {
+        self.key.len as usize + self.value.len as usize
+    }
 }
 
-// The lengths of the texts of all records.
-fn record_lengths(records: &[FieldRecord]) -> usize
-    requires { length records.now ≤ 1024 }
-    ensures value { result ≡ sum_by record_length records.now }
-    ensures bound { result < 2 ^ 44 }
+// The lengths of the texts of all of them together.
+fn summed_lengths<T: Lengths>(xs: &[T]) -> usize
+    requires { length xs.now ≤ 1024 }
+    ensures { result ≡ sum_by T.length xs.now }
 {
-    let mut total = 0;
-    for x in records {
-        total += record_length(*x);
-    }
-    total
-}
-
-// The lengths of the texts of all pairs.
-fn pair_lengths(pairs: &[Pair]) -> usize
-    requires { length pairs.now ≤ 1024 }
-    ensures value { result ≡ sum_by pair_length pairs.now }
-    ensures bound { result < 2 ^ 44 }
-{
-    let mut total = 0;
-    for p in pairs {
-        total += pair_length(*p);
-    }
-    total
+    xs.iter().map(|x| x.length()).sum()
 }
 
 /// Whether a sheet keeps the limits.
 pub fn within_limits(sheet: &Sheet) -> bool
     ensures { result ≡ within_limits (content sheet.now) }
 {
-    if sheet.records.len() > MAX_RECORDS
-        || sheet.pairs.len() > MAX_PAIRS
-        || sheet.text.len() > MAX_BYTES
-    {
+    let (records, pairs) = (sheet.records.as_slice(), sheet.pairs.as_slice());
+    if records.len() > MAX_RECORDS || pairs.len() > MAX_PAIRS || sheet.text.len() > MAX_BYTES {
         return false;
     }
-    record_lengths(sheet.records.as_slice()) + pair_lengths(sheet.pairs.as_slice()) <= MAX_BYTES
+    let of_records = summed_lengths(records);
+    of_records <= MAX_BYTES && summed_lengths(pairs) <= MAX_BYTES - of_records
 }

@@ -1,15 +1,15 @@
 //! The tests of texts: where they lie, that they are UTF-8, and that keys differ.
-ghost use Rattle.std.specs.Prelude.{◌≡◌, true, IsUtf8 as Utf8Text, Decides};
-ghost use Rattle.rules.specs.Tests.{text_fits, zone_text_fits, pair_fits, every, texts_fit, keys, lacks, all_differ};
+ghost use Rattle.std.specs.Prelude.{◌≡◌, true};
+ghost use Rattle.rules.specs.Tests.{is_utf8, text_fits, zone_text_fits, pair_fits, every, texts_fit, keys, lacks, all_differ};
 
 use crate::tables::zone_of;
-use sheet::{first_with_text, text_bytes};
+use sheet::{first_with_text, text_bytes, text_in};
 use std::str::from_utf8;
 use types::{FieldRecord, Pair, Text};
 
 // Whether bytes are UTF-8.
 fn is_utf8(bytes: &[u8]) -> bool
-    ensures { Decides result (Utf8Text bytes.now) }
+    ensures { result ≡ is_utf8 bytes.now }
 {
     from_utf8(bytes).is_ok()
 }
@@ -18,22 +18,14 @@ fn is_utf8(bytes: &[u8]) -> bool
 pub fn text_fits(bytes: &[u8], t: Text) -> bool
     ensures { result ≡ text_fits bytes.now t }
 {
-    let start = t.start as usize;
-    let end = start + t.len as usize;
-    if end > bytes.len() {
-        return false;
-    }
-    is_utf8(&bytes[start..end])
+    text_in(bytes, t).is_some_and(|s| is_utf8(s))
 }
 
 // The same of a zone, where there is one.
 fn zone_text_fits(bytes: &[u8], zone: Option<Text>) -> bool
     ensures { result ≡ zone_text_fits bytes.now zone }
 {
-    match zone {
-        None => true,
-        Some(t) => text_fits(bytes, t),
-    }
+    zone.is_none_or(|t| text_fits(bytes, t))
 }
 
 // The same of both texts of a pair.
@@ -47,12 +39,7 @@ fn pair_fits(bytes: &[u8], p: Pair) -> bool
 pub fn pairs_fit(bytes: &[u8], pairs: &[Pair]) -> bool
     ensures { result ≡ every (pair_fits bytes.now) pairs.now }
 {
-    for p in pairs {
-        if !pair_fits(bytes, *p) {
-            return false;
-        }
-    }
-    true
+    pairs.iter().all(|p| pair_fits(bytes, *p))
 }
 
 /// The same of all texts of a record with these pairs.
@@ -77,11 +64,12 @@ pub(crate) fn keys_differ(bytes: &[u8], pairs: &[Pair]) -> bool
     requires { every (pair_fits bytes.now) pairs.now ≡ true }
     ensures { result ≡ all_differ (keys bytes.now pairs.now) }
 {
-    for i in 0..pairs.len() {
-        let key = text_bytes(bytes, pairs[i].key);
-        if !lacks_key(bytes, &pairs[i + 1..], key) {
+    let mut rest = pairs;
+    while let Some((p, behind)) = rest.split_first() {
+        if !lacks_key(bytes, behind, text_bytes(bytes, p.key)) {
             return false;
         }
+        rest = behind;
     }
     true
 }
