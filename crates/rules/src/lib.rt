@@ -9,4 +9,4 @@ mod texts;
 mod walk;
 
 pub use refusal::SheetRefusal;
-pub use walk::check;
+pub use walk::{MAX_DEPTH, check};

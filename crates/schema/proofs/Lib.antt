@@ -1,6 +1,4 @@
-mod TypeValues
 mod SameLists
-mod SameFields
 mod MappedRows
 mod LineSteps
 mod NumberSteps

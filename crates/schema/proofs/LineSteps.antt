@@ -1,8 +1,5 @@
--- Steps over the lines of a sheet, and what they say of the schema that it holds.
-use Rattle.std.proofs.Common.{◌≡◌, ℕ, zero, suc, ◌+◌, ◌≤◌, Bool, List, [], ◌∷◌, map, length, take, drop, ℤ, Some, None, Decides, sym, refl, ap, ◌∙◌, arith}
-use Rattle.std.specs.List.{slice_get}
-use Rattle.std.proofs.lemmas.List.{drop-drop, drop_all}
-use Rattle.roll.proofs.Parted.{drop_at_some}
+-- What the lines of a sheet say of the schema that it holds.
+use Rattle.std.proofs.Common.{◌≡◌, ℕ, Bool, List, [], ◌∷◌, map, take, drop, ℤ, Decides, sym, refl, ap, ◌∙◌}
 use Rattle.types.specs.declared.Pair.{Pair}
 use Rattle.types.specs.declared.FieldRecord.{FieldRecord}
 use Rattle.sheet.specs.Contents.{Content}
@@ -10,31 +7,8 @@ use Rattle.sheet.specs.Forests.{Forest, counted}
 use Rattle.sheet.specs.Schemas.{Field, PairValue, Schema, Numbered, field_value, listed, Holds}
 use Rattle.schema.proofs.MappedRows.{counted_mapped}
 use Rattle.rules.proofs.Holding.{same_forest}
-use Rattle.schema.specs.Lines.{line, lines, lines_of, own_of}
+use Rattle.schema.specs.Lines.{lines, lines_of, own_of}
 use Rattle.schema.specs.Answers.{TellsAlike}
-
-pub length_lines : (bytes : List ℕ) (ps : List Pair) (xs : List FieldRecord) → length (lines bytes ps xs) ≡ length xs
-length_lines bytes ps [] = refl
-length_lines bytes ps (x ∷ xs) = ap suc (length_lines bytes (drop x.pairs ps) xs)
-
-pub none_past : {X : Type 0} (xs : List X) (i : ℕ) → slice_get xs i ≡ None → length xs ≤ i
-none_past [] i e = omega arith
-none_past (x ∷ xs) zero e = let z : ◌≡◌ {A = ℕ} 0 1 = cc in absurd (omega arith)
-none_past (x ∷ xs) (suc i) e = let h = none_past xs i e in omega arith
-
-module _ (c : Content) (p i : ℕ) where
-  pub line_on : (x : FieldRecord) → slice_get c.records i ≡ Some x
-      → lines c.bytes (drop p c.pairs) (drop i c.records) ≡ line c x p ∷ lines c.bytes (drop (p + x.pairs) c.pairs) (drop (i + 1) c.records)
-  line_on x e =
-      ap (lines c.bytes (drop p c.pairs)) (drop_at_some c.records i x e)
-      ∙ ap (λ ps. line c x p ∷ lines c.bytes ps (drop (i + 1) c.records)) (drop-drop x.pairs p c.pairs)
-
-  pub line_to : (x : FieldRecord) (end : ℕ) → end ≡ p + x.pairs → slice_get c.records i ≡ Some x
-      → lines c.bytes (drop p c.pairs) (drop i c.records) ≡ line c x p ∷ lines c.bytes (drop end c.pairs) (drop (i + 1) c.records)
-  line_to x end same e = line_on x e ∙ ap (λ n. line c x p ∷ lines c.bytes (drop n c.pairs) (drop (i + 1) c.records)) (sym same)
-
-  pub lines_end : length c.records ≤ i → lines c.bytes (drop p c.pairs) (drop i c.records) ≡ []
-  lines_end h = ap (lines c.bytes (drop p c.pairs)) (drop_all i c.records h)
 
 -- The lines are the fields of the schema in preorder.
 abbrev bare : Numbered × ℕ → Field × ℕ

@@ -1,8 +1,6 @@
 -- Steps of the walk that lays dictionary numbers down.
-use Rattle.std.proofs.Common.{◌≡◌, ℕ, zero, suc, ◌+◌, ◌-◌, ◌<◌, ◌≤◌, List, [], ◌∷◌, ◌++◌, length, drop, ℤ, Some, None, sym, refl, ap, ◌∙◌, arith}
-use Rattle.std.specs.List.{slice_get}
+use Rattle.std.proofs.Common.{◌≡◌, ℕ, zero, suc, ◌+◌, ◌-◌, ◌<◌, ◌≤◌, List, [], ◌∷◌, ◌++◌, length, drop, ℤ, sym, refl, ap, ◌∙◌, arith}
 use Rattle.std.proofs.lemmas.List.{append_assoc, append-nil, length-append, length-drop, drop-drop}
-use Rattle.roll.proofs.Parted.{drop_at_none, drop_at_some}
 use Rattle.types.specs.declared.FieldRecord.{FieldRecord}
 use Rattle.schema.specs.Numbers.{Told, around, numbers_row, numbers_at}
 
@@ -44,23 +42,23 @@ module _ (start free₀ all : List ℤ) where
         let size : length items - length start ≡ length all = omega (arith, ap length same, length-append start all) in
         (same, p.2 ∙ ap (λ n. drop n free₀) size)
 
-module _ (under : ℕ → List FieldRecord → Told) (xs : List FieldRecord) (n k at : ℕ) where
+module _ (under : ℕ → List FieldRecord → Told) (n k : ℕ) (rest : List FieldRecord) where
   none_here : (m : ℕ) (ys : List FieldRecord) → ys ≡ [] → numbers_row under m ys ≡ record { numbers = []; records = ys }
   none_here zero ys e = refl
   none_here (suc m) [] e = refl
   none_here (suc m) (y ∷ ys) e = let z : ◌≡◌ {A = ℕ} 0 1 = cc in absurd (omega arith)
 
-  pub row_out : slice_get xs at ≡ None → numbers_row under (n - k) (drop at xs) ≡ record { numbers = []; records = drop at xs }
-  row_out e = none_here (n - k) (drop at xs) (drop_at_none xs at e)
+  pub row_out : rest ≡ [] → numbers_row under (n - k) rest ≡ record { numbers = []; records = rest }
+  row_out e = none_here (n - k) rest e
 
-  pub row_done : n ≤ k → numbers_row under (n - k) (drop at xs) ≡ record { numbers = []; records = drop at xs }
-  row_done h = let zip : n - k ≡ 0 = omega arith in ap (λ m. numbers_row under m (drop at xs)) zip
+  pub row_done : n ≤ k → numbers_row under (n - k) rest ≡ record { numbers = []; records = rest }
+  row_done h = let zip : n - k ≡ 0 = omega arith in ap (λ m. numbers_row under m rest) zip
 
-  pub row_on : (x : FieldRecord) → k < n → slice_get xs at ≡ Some x
-      → numbers_row under (n - k) (drop at xs) ≡ around (under x.children (drop (at + 1) xs)) x (numbers_row under (n - (k + 1)))
-  row_on x h e =
+  pub row_on : (x : FieldRecord) (nested : List FieldRecord) → k < n → rest ≡ x ∷ nested
+      → numbers_row under (n - k) rest ≡ around (under x.children nested) x (numbers_row under (n - (k + 1)))
+  row_on x nested h e =
       let more : n - k ≡ suc (n - (k + 1)) = omega arith in
-      ap (λ m. numbers_row under m (drop at xs)) more ∙ ap (numbers_row under (suc (n - (k + 1)))) (drop_at_some xs at x e)
+      ap (λ m. numbers_row under m rest) more ∙ ap (numbers_row under (suc (n - (k + 1)))) e
 
 pub at_room : (room n : ℕ) (xs : List FieldRecord) → 0 < room → numbers_at room n xs ≡ numbers_row (numbers_at (room - 1)) n xs
 at_room zero n xs h = absurd (omega arith)
@@ -70,19 +68,14 @@ pub at_no_room : (room n : ℕ) (xs : List FieldRecord) → room ≡ 0 → numbe
 at_no_room zero n xs e = refl
 at_no_room (suc room) n xs e = absurd (omega arith)
 
--- The same for the loop over a row.
-module _ (start free₀ items free : List ℤ) (xs : List FieldRecord) (room n k from at : ℕ) (deep : 0 < room)
-    (p : Progress start free₀ items free (numbers_row (numbers_at (room - 1)) (n - k) (drop at xs)).numbers (numbers_row (numbers_at (room - 1)) n (drop from xs)).numbers) where
-  pub loop_room : length (numbers_at room n (drop from xs)).numbers ≤ length free₀ → length (numbers_row (numbers_at (room - 1)) (n - k) (drop at xs)).numbers ≤ length free
+-- The same for the loop over a row: `rest` is left of the row, of `n` fields from the front of xs.
+module _ (start free₀ items free : List ℤ) (xs rest : List FieldRecord) (room n k : ℕ) (deep : 0 < room)
+    (p : Progress start free₀ items free (numbers_row (numbers_at (room - 1)) (n - k) rest).numbers (numbers_row (numbers_at (room - 1)) n xs).numbers) where
+  pub loop_room : length (numbers_at room n xs).numbers ≤ length free₀ → length (numbers_row (numbers_at (room - 1)) (n - k) rest).numbers ≤ length free
   loop_room h =
-      has_room start free₀ _ items free _ p (omega (arith, h, ap (λ t. length t.numbers) (at_room room n (drop from xs) deep)))
+      has_room start free₀ _ items free _ p (omega (arith, h, ap (λ t. length t.numbers) (at_room room n xs deep)))
 
-  pub loop_ends : numbers_row (numbers_at (room - 1)) (n - k) (drop at xs) ≡ record { numbers = []; records = drop at xs }
-      → (numbers_row (numbers_at (room - 1)) (n - k) (drop at xs)).records ≡ (numbers_row (numbers_at (room - 1)) n (drop from xs)).records
-      → (items ≡ start ++ (numbers_at room n (drop from xs)).numbers)
-      × (free ≡ drop (length (numbers_at room n (drop from xs)).numbers) free₀)
-      × (drop at xs ≡ (numbers_at room n (drop from xs)).records)
-  loop_ends e behind =
-      let all = all_laid start free₀ (numbers_row (numbers_at (room - 1)) n (drop from xs)).numbers items free _ p (ap (λ t. t.numbers) e) in
-      let same = sym (at_room room n (drop from xs) deep) in
-      (all.0 ∙ ap (λ t. start ++ t.numbers) same, all.1 ∙ ap (λ t. drop (length t.numbers) free₀) same, sym (ap (λ t. t.records) e) ∙ behind ∙ ap (λ t. t.records) same)
+  pub loop_ends : numbers_row (numbers_at (room - 1)) (n - k) rest ≡ record { numbers = []; records = rest } → free ≡ drop (length (numbers_at room n xs).numbers) free₀
+  loop_ends e =
+      let all = all_laid start free₀ (numbers_row (numbers_at (room - 1)) n xs).numbers items free _ p (ap (λ t. t.numbers) e) in
+      all.1 ∙ ap (λ t. drop (length t.numbers) free₀) (sym (at_room room n xs deep))

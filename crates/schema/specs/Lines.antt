@@ -16,7 +16,3 @@ lines_of c = lines c.bytes (drop c.own c.pairs) c.records
 -- The schema's own pairs.
 abbrev pub own_of : Content → List PairValue
 own_of c = map (pair_value c.bytes) (take c.own c.pairs)
-
--- What one record says, whose first pair stands at a place.
-abbrev pub line : Content → FieldRecord → ℕ → Field × ℕ
-line c x p = (field_value c.bytes (take x.pairs (drop p c.pairs)) x, x.children)

@@ -1,77 +1,98 @@
 //! Whether two sheets hold alike schemas.
-ghost use Rattle.std.specs.Prelude.{◌≡◌, ◌+◌, ◌^◌, ◌≤◌, length, Some, Decides, MatchResult, OnOk};
+ghost use Rattle.std.specs.Prelude.{◌≡◌, [], ◌∷◌, take, drop, Some, Decides, MatchOption, MatchResult, OnOk};
 ghost use Rattle.sheet.specs.Contents.{content};
 ghost use Rattle.rules.specs.Verdict.{verdict, or_else};
 ghost use Rattle.rules.specs.Lawful.{Lawful};
-ghost use Rattle.schema.specs.Lines.{line, lines_of, own_of};
+ghost use Rattle.schema.specs.Lines.{lines, lines_of, own_of};
 ghost use Rattle.schema.specs.Answers.{TellsAlike};
 
-use crate::fields::{same_field, same_pairs};
+use crate::fields::{Line, Sides};
 use roll::part;
 use rules::{SheetRefusal, check};
 use sheet::Sheet;
-use types::FieldRecord;
+use types::{FieldRecord, Pair};
+
+/// Records, and pairs of which each takes its own from the front of those left.
+#[derive(Clone, Copy)]
+pub struct Lines<'a> {
+    records: &'a [FieldRecord],
+    pairs: &'a [Pair],
+}
+
+impl<'a> Lines<'a> {
+    // The records of a sheet, behind the schema's own pairs.
+    fn of(sheet: &'a Sheet) -> Lines<'a>
+        ensures records { result.records.now ≡ (content sheet.now).records }
+        ensures pairs { result.pairs.now ≡ drop (content sheet.now).own (content sheet.now).pairs }
+    {
+        let pairs = sheet.pairs.as_slice();
+        Lines {
+            records: sheet.records.as_slice(),
+            pairs: part(pairs, sheet.own_pairs as usize, pairs.len()),
+        }
+    }
+
+    // The next record with its pairs and what is behind it, or none at the end.
+    fn next(self) -> Option<(Line<'a>, Lines<'a>)>
+        ensures { MatchOption result (self.entry.records.now ≡ []) (λ l. (self.entry.records.now ≡ l.0.head ∷ l.1.records.now) × (l.0.pairs.now ≡ take l.0.head.pairs self.entry.pairs.now) × (l.1.pairs.now ≡ drop l.0.head.pairs self.entry.pairs.now)) }
+    {
+        let (head, records) = self.records.split_first()?;
+        let n = head.pairs as usize;
+        let line = Line {
+            head: *head,
+            pairs: part(self.pairs, 0, n),
+        };
+        let pairs = part(self.pairs, n, self.pairs.len());
+        Some((line, Lines { records, pairs }))
+    }
+}
 
 // Whether the schemas' own pairs are the same.
 fn same_own_pairs(a: &Sheet, b: &Sheet) -> bool
     ensures { Decides result (own_of (content a.now) ≡ own_of (content b.now)) }
 {
+    let sides = Sides {
+        first: a.text.as_slice(),
+        second: b.text.as_slice(),
+    };
     let ps = part(a.pairs.as_slice(), 0, a.own_pairs as usize);
     let qs = part(b.pairs.as_slice(), 0, b.own_pairs as usize);
-    same_pairs(a.text.as_slice(), ps, b.text.as_slice(), qs)
+    sides.same_pairs(ps, qs)
 }
 
-// Whether two records, each on its sheet with its first pair at a place, say the same field.
-fn same_at(a: &Sheet, x: FieldRecord, p: usize, b: &Sheet, y: FieldRecord, q: usize) -> bool
-    ensures { Decides result (line (content a.now) x p ≡ line (content b.now) y q) }
+// Whether lines are the same, one after another.
+fn same_lines(sides: &Sides, a: Lines, b: Lines) -> bool
+    ensures { Decides result (lines sides.now.first.now a.entry.pairs.now a.entry.records.now ≡ lines sides.now.second.now b.entry.pairs.now b.entry.records.now) }
 {
-    let ps = part(a.pairs.as_slice(), p, x.pairs as usize);
-    let qs = part(b.pairs.as_slice(), q, y.pairs as usize);
-    same_field(a.text.as_slice(), x, ps, b.text.as_slice(), y, qs)
-}
-
-// The place past a record's pairs.
-fn past_pairs(p: usize, x: FieldRecord) -> usize
-    requires { p ≤ 2 ^ 60 }
-    ensures value { result ≡ p + x.pairs }
-    ensures bound { result ≤ p + 2 ^ 32 }
-{
-    p + x.pairs as usize
+    let (mut left, mut right) = (a, b);
+    while let Some((x, behind)) = left.next() {
+        let Some((y, past)) = right.next() else {
+            return false;
+        };
+        if !sides.same_line(&x, &y) {
+            return false;
+        }
+        (left, right) = (behind, past);
+    }
+    right.next().is_none()
 }
 
 // Whether the fields in preorder are the same.
-fn same_lines(a: &Sheet, b: &Sheet) -> bool
-    requires { length (content a.now).records ≤ 1024 }
+fn same_fields(a: &Sheet, b: &Sheet) -> bool
     ensures { Decides result (lines_of (content a.now) ≡ lines_of (content b.now)) }
 {
-    let n = a.records.len();
-    if n != b.records.len() {
-        return false;
-    }
-    let mut p = a.own_pairs as usize;
-    let mut q = b.own_pairs as usize;
-    for i in 0..n {
-        let Some(x) = a.records.get(i) else {
-            return false;
-        };
-        let Some(y) = b.records.get(i) else {
-            return false;
-        };
-        if !same_at(a, x, p, b, y, q) {
-            return false;
-        }
-        p = past_pairs(p, x);
-        q = past_pairs(q, y);
-    }
-    true
+    let sides = Sides {
+        first: a.text.as_slice(),
+        second: b.text.as_slice(),
+    };
+    same_lines(&sides, Lines::of(a), Lines::of(b))
 }
 
 // The same of everything but dictionary numbers.
 fn same_schema(a: &Sheet, b: &Sheet) -> bool
-    requires { length (content a.now).records ≤ 1024 }
     ensures { Decides result ((own_of (content a.now) ≡ own_of (content b.now)) × (lines_of (content a.now) ≡ lines_of (content b.now))) }
 {
-    same_own_pairs(a, b) && same_lines(a, b)
+    same_own_pairs(a, b) && same_fields(a, b)
 }
 
 /// Whether two sheets hold alike schemas: equal in everything but the numbers of dictionaries.
