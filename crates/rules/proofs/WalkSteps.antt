@@ -1,7 +1,7 @@
 -- Steps of the walk over the records.
 use Rattle.std.proofs.Common.{◌≡◌, ℕ, zero, suc, ◌+◌, ◌-◌, ◌<◌, ◌≤◌, List, ◌∷◌, length, Some, None, Err, ap, ◌∙◌, sym, arith}
 use Rattle.types.specs.declared.FieldRecord.{FieldRecord}
-use Rattle.rules.specs.declared.walk.Ahead.{Ahead as Left}
+use Rattle.sheet.specs.declared.unread.Unread.{Unread}
 use Rattle.rules.specs.declared.refusal.SheetRefusal.{SheetRefusal}
 use Rattle.rules.specs.declared.refusal.SheetRefusal.TheVariants.{TooDeep}
 use Rattle.rules.specs.Tables.{child_rule}
@@ -10,7 +10,7 @@ use Rattle.rules.specs.Models.{ahead}
 use Rattle.rules.specs.Verdict.{Ahead, Walked, unless, then, first_broken, field_rules, site_at, past_pairs, walk_children, walk_field, walk_row}
 
 -- Where the next record is x, the walk goes on with x and then with what x left.
-module _ (field : Row → FieldRecord → Ahead → Walked) (at behind : Left) (x : FieldRecord) (records : at.records.now ≡ x ∷ behind.records.now) (pairs : behind.pairs.now ≡ at.pairs.now) where
+module _ (field : Row → FieldRecord → Ahead → Walked) (at behind : Unread) (x : FieldRecord) (records : at.records.now ≡ x ∷ behind.records.now) (pairs : behind.pairs.now ≡ at.pairs.now) where
   stands : ahead at ≡ record { records = x ∷ behind.records.now; pairs = behind.pairs.now }
   stands = λ i. record { records = records i; pairs = sym pairs i }
 

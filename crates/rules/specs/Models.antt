@@ -3,7 +3,7 @@ use Rattle.std.specs.Prelude.{ℕ, ◌+◌, ◌≤◌, length, Some, None, Ok, E
 use Rattle.arrayvec.specs.ArrayVec.{ArrayVec}
 use Rattle.rules.specs.declared.refusal.SheetRefusal.{SheetRefusal}
 use Rattle.rules.specs.declared.siblings.Siblings.{Siblings}
-use Rattle.rules.specs.declared.walk.Ahead.{Ahead as Left}
+use Rattle.sheet.specs.declared.unread.Unread.{Unread}
 use Rattle.rules.specs.Sites.{Row, plain, inside_union}
 use Rattle.rules.specs.Verdict.{Ahead, Walked}
 
@@ -22,11 +22,11 @@ HasRoom plain m = Unit {0}
 HasRoom (inside_union ids) m = length ids + m ≤ 128
 
 -- What is ahead of a walk.
-abbrev pub ahead : Left → Ahead
+abbrev pub ahead : Unread → Ahead
 ahead a = record { records = a.records.now; pairs = a.pairs.now }
 
 -- How far a walk came.
-abbrev pub walked : Result Left SheetRefusal → Walked
+abbrev pub walked : Result Unread SheetRefusal → Walked
 walked (Ok a) = Ok (ahead a)
 walked (Err e) = Err e
 

@@ -1,5 +1,5 @@
 //! The check of a sheet: records in preorder, each by its own rules and then its children.
-ghost use Rattle.std.specs.Prelude.{◌≡◌, ◌+◌, ◌-◌, ◌<◌, ◌≤◌, [], ◌∷◌, ◌&&◌, length, IfOk, MatchOption, MatchResult, OnOk};
+ghost use Rattle.std.specs.Prelude.{◌≡◌, ◌+◌, ◌-◌, ◌<◌, ◌≤◌, ◌&&◌, length, IfOk, MatchResult, OnOk};
 ghost use Rattle.sheet.specs.Contents.{content};
 ghost use Rattle.sheet.specs.Schemas.{HoldsOne};
 ghost use Rattle.rules.specs.Tables.{child_rule, CountFits, unit_fits};
@@ -15,28 +15,11 @@ use crate::refusal::SheetRefusal;
 use crate::siblings::Siblings;
 use crate::tables::{child_rule, count_fits, unit_fits, zone_of};
 use crate::texts::{keys_differ, pairs_fit, texts_fit};
-use sheet::Sheet;
+use sheet::{Sheet, Unread};
 use types::{DataType, FieldRecord, Pair};
 
 /// Fields nest at most this deep; an outermost one has depth 1.
 pub const MAX_DEPTH: u32 = 32;
-
-/// What a walk has not come to yet: the records and the pairs that are left.
-#[derive(Clone, Copy)]
-pub struct Ahead<'a> {
-    records: &'a [FieldRecord],
-    pairs: &'a [Pair],
-}
-
-impl<'a> Ahead<'a> {
-    // The next record and what is behind it, or none at the end.
-    fn next(self) -> Option<(FieldRecord, Ahead<'a>)>
-        ensures { MatchOption result (self.entry.records.now ≡ []) (λ p. (self.entry.records.now ≡ p.0 ∷ p.1.records.now) × (p.1.pairs.now ≡ self.entry.pairs.now)) }
-    {
-        let (head, records) = self.records.split_first()?;
-        Some((*head, Ahead { records, ..self }))
-    }
-}
 
 // Whether a type's zone is missing or not empty.
 fn zone_fits(t: DataType) -> bool
@@ -90,8 +73,8 @@ impl<'a> Level<'a> {
         &self,
         row: &Siblings,
         head: FieldRecord,
-        from: Ahead<'s>,
-    ) -> Result<Ahead<'s>, SheetRefusal>
+        from: Unread<'s>,
+    ) -> Result<Unread<'s>, SheetRefusal>
         ensures rules { told result ≡ first_broken (field_rules self.now.bytes.now (site_at self.now.room (row_of row.now) head (ahead from.entry))) }
         ensures past { IfOk result (λ a. ahead a ≡ past_pairs head (ahead from.entry)) }
         ensures fits { OnOk result ((0 < self.now.room) × CountFits (child_rule head.data_type) head.children) }
@@ -110,7 +93,7 @@ impl<'a> Level<'a> {
             return Err(SheetRefusal::Parameter);
         }
         check_texts(self.bytes, head, own)?;
-        Ok(Ahead { pairs, ..from })
+        Ok(Unread { pairs, ..from })
     }
 
     // A field whose record was read, and all that is nested in it. `from` is past its record and at its first pair.
@@ -119,8 +102,8 @@ impl<'a> Level<'a> {
         &self,
         row: &Siblings,
         head: FieldRecord,
-        from: Ahead<'s>,
-    ) -> Result<Ahead<'s>, SheetRefusal>
+        from: Unread<'s>,
+    ) -> Result<Unread<'s>, SheetRefusal>
         ensures walk { walked result ≡ walk_field self.now.bytes.now self.now.room (row_of row.now) head (ahead from.entry) }
         ensures shorter { IfOk result (λ a. length a.records.now ≤ length from.entry.records.now) }
     {
@@ -130,7 +113,11 @@ impl<'a> Level<'a> {
 
     // The children that a field's type asks for, on the level below it.
     #[cycle(check_field_check_type)]
-    fn check_type<'s>(&self, head: FieldRecord, from: Ahead<'s>) -> Result<Ahead<'s>, SheetRefusal>
+    fn check_type<'s>(
+        &self,
+        head: FieldRecord,
+        from: Unread<'s>,
+    ) -> Result<Unread<'s>, SheetRefusal>
         requires { CountFits (child_rule head.data_type) head.children }
         ensures walk { walked result ≡ walk_children (walk_field self.now.bytes.now self.now.room) head.children (row_under (child_rule head.data_type)) (ahead from.entry) }
         ensures shorter { IfOk result (λ a. length a.records.now ≤ length from.entry.records.now) }
@@ -147,7 +134,7 @@ impl<'a> Level<'a> {
 }
 
 // The outermost fields, to the end of the records.
-fn check_fields<'s>(bytes: &[u8], from: Ahead<'s>) -> Result<Ahead<'s>, SheetRefusal>
+fn check_fields<'s>(bytes: &[u8], from: Unread<'s>) -> Result<Unread<'s>, SheetRefusal>
     ensures { walked result ≡ walk_row (walk_field bytes.now 32) (length from.entry.records.now) from.entry.records.now from.entry.pairs.now }
 {
     let top = Level {
@@ -192,7 +179,7 @@ fn judge(sheet: &Sheet) -> Result<(), SheetRefusal>
         .split_at_checked(sheet.own_pairs as usize)
         .ok_or(SheetRefusal::Counts)?;
     let records = sheet.records.as_slice();
-    let end = check_fields(bytes, Ahead { records, pairs })?;
+    let end = check_fields(bytes, Unread { records, pairs })?;
     check_own_pairs(bytes, own, end.pairs)
 }
 

@@ -9,42 +9,35 @@ ghost use Rattle.schema.specs.Answers.{TellsAlike};
 use crate::fields::{Line, Sides};
 use roll::part;
 use rules::{SheetRefusal, check};
-use sheet::Sheet;
-use types::{FieldRecord, Pair};
+use sheet::{Sheet, Unread};
 
-/// Records, and pairs of which each takes its own from the front of those left.
-#[derive(Clone, Copy)]
-pub struct Lines<'a> {
-    records: &'a [FieldRecord],
-    pairs: &'a [Pair],
+// The records of a sheet, behind the schema's own pairs.
+fn records_of<'a>(sheet: &'a Sheet) -> Unread<'a>
+    ensures records { result.records.now ≡ (content sheet.now).records }
+    ensures pairs { result.pairs.now ≡ drop (content sheet.now).own (content sheet.now).pairs }
+{
+    let pairs = sheet.pairs.as_slice();
+    Unread {
+        records: sheet.records.as_slice(),
+        pairs: part(pairs, sheet.own_pairs as usize, pairs.len()),
+    }
 }
 
-impl<'a> Lines<'a> {
-    // The records of a sheet, behind the schema's own pairs.
-    fn of(sheet: &'a Sheet) -> Lines<'a>
-        ensures records { result.records.now ≡ (content sheet.now).records }
-        ensures pairs { result.pairs.now ≡ drop (content sheet.now).own (content sheet.now).pairs }
-    {
-        let pairs = sheet.pairs.as_slice();
-        Lines {
-            records: sheet.records.as_slice(),
-            pairs: part(pairs, sheet.own_pairs as usize, pairs.len()),
-        }
-    }
-
-    // The next record with its pairs and what is behind it, or none at the end.
-    fn next(self) -> Option<(Line<'a>, Lines<'a>)>
-        ensures { MatchOption result (self.entry.records.now ≡ []) (λ l. (self.entry.records.now ≡ l.0.head ∷ l.1.records.now) × (l.0.pairs.now ≡ take l.0.head.pairs self.entry.pairs.now) × (l.1.pairs.now ≡ drop l.0.head.pairs self.entry.pairs.now)) }
-    {
-        let (head, records) = self.records.split_first()?;
-        let n = head.pairs as usize;
-        let line = Line {
-            head: *head,
-            pairs: part(self.pairs, 0, n),
-        };
-        let pairs = part(self.pairs, n, self.pairs.len());
-        Some((line, Lines { records, pairs }))
-    }
+// The next record with its pairs and what is behind it, or none at the end.
+fn next_line<'a>(from: Unread<'a>) -> Option<(Line<'a>, Unread<'a>)>
+    ensures { MatchOption result (from.entry.records.now ≡ []) (λ l. (from.entry.records.now ≡ l.0.head ∷ l.1.records.now) × (l.0.pairs.now ≡ take l.0.head.pairs from.entry.pairs.now) × (l.1.pairs.now ≡ drop l.0.head.pairs from.entry.pairs.now)) }
+{
+    let (head, behind) = from.next()?;
+    let n = head.pairs as usize;
+    let pairs = part(from.pairs, 0, n);
+    let left = part(from.pairs, n, from.pairs.len());
+    Some((
+        Line { head, pairs },
+        Unread {
+            pairs: left,
+            ..behind
+        },
+    ))
 }
 
 // Whether the schemas' own pairs are the same.
@@ -61,12 +54,12 @@ fn same_own_pairs(a: &Sheet, b: &Sheet) -> bool
 }
 
 // Whether lines are the same, one after another.
-fn same_lines(sides: &Sides, a: Lines, b: Lines) -> bool
+fn same_lines(sides: &Sides, a: Unread, b: Unread) -> bool
     ensures { Decides result (lines sides.now.first.now a.entry.pairs.now a.entry.records.now ≡ lines sides.now.second.now b.entry.pairs.now b.entry.records.now) }
 {
     let (mut left, mut right) = (a, b);
-    while let Some((x, behind)) = left.next() {
-        let Some((y, past)) = right.next() else {
+    while let Some((x, behind)) = next_line(left) {
+        let Some((y, past)) = next_line(right) else {
             return false;
         };
         if !sides.same_line(&x, &y) {
@@ -74,7 +67,7 @@ fn same_lines(sides: &Sides, a: Lines, b: Lines) -> bool
         }
         (left, right) = (behind, past);
     }
-    right.next().is_none()
+    next_line(right).is_none()
 }
 
 // Whether the fields in preorder are the same.
@@ -85,7 +78,7 @@ fn same_fields(a: &Sheet, b: &Sheet) -> bool
         first: a.text.as_slice(),
         second: b.text.as_slice(),
     };
-    same_lines(&sides, Lines::of(a), Lines::of(b))
+    same_lines(&sides, records_of(a), records_of(b))
 }
 
 // The same of everything but dictionary numbers.
