@@ -80,8 +80,3 @@ drop_at_some (y ∷ xs) zero x e = let same : y ≡ x = cc in ap (λ z. z ∷ xs
 drop_at_some (y ∷ xs) (suc i) x e =
     let more : suc i + 1 ≡ suc (i + 1) = omega arith in
     drop_at_some xs i x e ∙ ap (λ n. x ∷ drop n (y ∷ xs)) (sym more)
-
-pub within : {X : Type 0} (xs : List X) (i : ℕ) (x : X) → slice_get xs i ≡ Some x → i < length xs
-within [] i x e = let z : ◌≡◌ {A = ℕ} 0 1 = cc in absurd (omega arith)
-within (y ∷ xs) zero x e = omega arith
-within (y ∷ xs) (suc i) x e = let h = within xs i x e in omega arith

@@ -5,6 +5,7 @@ ghost use Rattle.std.specs.Prelude.{◌≡◌, ◌+◌, ◌<◌, ◌≤◌, [], 
 ghost use Rattle.std.specs.List.{slice_get};
 
 /// Elements in the caller's memory, in order: the first places are used, the others are free.
+// Kept: places and a count in place of a vector, since the memory is the caller's and the library allocates nothing.
 #[derive(Drop)]
 pub struct Roll<'a, T> {
     places: &'a mut [T],
@@ -48,6 +49,8 @@ pub fn part<T>(s: &[T], from: usize, n: usize) -> &[T]
     &rest[..n.min(rest.len())]
 }
 
+// Kept: each call that changes a roll says `lender` itself, since it ties the roll before the call to the one behind it, and
+// what a type keeps speaks of one state.
 impl<'a, T: Copy> Roll<'a, T> {
     ghost use Rattle.roll.specs.Rolls.{items, free};
 

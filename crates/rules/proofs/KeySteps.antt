@@ -1,5 +1,5 @@
 -- Steps of the test that keys differ.
-use Rattle.std.proofs.Common.{◌≡◌, ℕ, zero, suc, Bool, true, false, not, List, [], ◌∷◌, length, is_some, Some, None, Option, sym, refl, ap, ◌∙◌, ⊎_elim, arith}
+use Rattle.std.proofs.Common.{◌≡◌, ℕ, zero, suc, true, false, not, List, [], ◌∷◌, length, is_some, Some, None, Option, sym, refl, ap, ◌∙◌, ⊎_elim, arith}
 use Rattle.std.specs.List.{slice_get}
 use Rattle.std.specs.Str.{bytes_eq}
 use Rattle.std.proofs.lemmas.Slice.Eq.{bytes_eq-Decides}
@@ -36,7 +36,3 @@ module _ (bytes : List ℕ) where
     pub lacks_told : (ps : List Pair) (r : Option ℕ) → every (pair_fits bytes) ps ≡ true → First (λ p. Spells bytes p.key key) ps r → not (is_some r) ≡ lacks key (keys bytes ps)
     lacks_told ps None fit f = sym (lacks_none ps fit f)
     lacks_told ps (Some j) fit f = sym (lacks_found ps j f.0.0 f.0.1 f.0.2.1)
-
-pub not_not : (b : Bool) → not (not b) ≡ b
-not_not true = refl
-not_not false = refl

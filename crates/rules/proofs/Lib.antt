@@ -1,6 +1,5 @@
 mod RowSteps
 pub mod Utf8
-mod TextSteps
 mod KeySteps
 pub mod SumSteps
 mod WalkSteps
