@@ -2,6 +2,8 @@
 ghost use Rattle.std.specs.Prelude.{◌≡◌};
 ghost use Rattle.rules.specs.Refusals.{refusal_number};
 
+use std::fmt;
+
 /// The rule that a sheet breaks.
 #[derive(Clone, Copy, PartialEq, Eq, Debug)]
 pub enum SheetRefusal {
@@ -32,5 +34,21 @@ impl SheetRefusal {
             SheetRefusal::BadText => 14,
             SheetRefusal::RepeatedKey => 15,
         }
+    }
+}
+
+/// The number by which a refusal is told, and the rule in words.
+impl fmt::Display for SheetRefusal {
+    fn fmt<W: fmt::Write>(&self, f: &mut fmt::Formatter<W>) -> fmt::Result {
+        let number = self.number();
+        let words = match self {
+            SheetRefusal::TooLarge => "too large",
+            SheetRefusal::Counts => "counts do not fit",
+            SheetRefusal::TooDeep => "nested too deep",
+            SheetRefusal::Parameter => "type id, unit or zone",
+            SheetRefusal::BadText => "text",
+            SheetRefusal::RepeatedKey => "key repeated",
+        };
+        write!(f, "{number} {words}")
     }
 }
