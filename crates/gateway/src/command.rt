@@ -2,7 +2,7 @@
 ghost use Rattle.gateway.specs.Commands.{command_name};
 
 use listing_words::fault::LineFault;
-use listing_words::names::{Named, by_name};
+use listing_words::names::Named;
 use listing_words::token::Cursor;
 
 #[derive(Clone, Copy)]
@@ -43,12 +43,9 @@ impl Named for Command {
 /// The command that a line gives, or none where its first word is no command. Nothing may stand behind a command.
 pub fn read_command(line: &[u8]) -> Result<Option<Command>, LineFault> {
     let mut cursor = Cursor::new(line);
-    let Some(command) = by_name(cursor.word()) else {
+    let Some(command) = cursor.named() else {
         return Ok(None);
     };
-    if cursor.at_end() {
-        Ok(Some(command))
-    } else {
-        Err(LineFault::Trailing)
-    }
+    cursor.expect_end()?;
+    Ok(Some(command))
 }

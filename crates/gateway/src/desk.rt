@@ -4,11 +4,10 @@ ghost use Rattle.sheet.specs.Contents.{content};
 
 use crate::command::{Command, read_command};
 use crate::memory::RECORDS;
-use crate::outcome::{Outcome, Row, StepSaid, untold};
-use listing::fill::{Filler, Step};
+use crate::outcome::{Found, Refusal, StepSaid};
+use crate::report::Report;
+use listing::fill::Filler;
 use listing_show::show::Listing;
-use listing_words::fault::LineFault;
-use listing_words::names::Named;
 use roll::{Full, Roll};
 use rules::check;
 use schema::{alike, dictionary_numbers};
@@ -25,20 +24,18 @@ pub struct Desk<'a> {
 }
 
 // Whether the sheet is lawful.
-fn checked(sheet: &Sheet) -> Outcome {
-    match check(sheet) {
-        Ok(()) => Outcome::Lawful,
-        Err(refusal) => Outcome::Refused(refusal),
-    }
+fn checked(sheet: &Sheet) -> Result<Found<'static>, Refusal> {
+    check(sheet)?;
+    Ok(Found::Lawful)
 }
 
 // Whether two sheets hold the same schema, but for the numbers of their dictionaries.
-fn compared(a: &Sheet, b: &Sheet) -> Outcome {
-    match alike(a, b) {
-        Ok(true) => Outcome::Alike,
-        Ok(false) => Outcome::NotAlike,
-        Err(refusal) => Outcome::Refused(refusal),
-    }
+fn compared(a: &Sheet, b: &Sheet) -> Result<Found<'static>, Refusal> {
+    Ok(if alike(a, b)? {
+        Found::Alike
+    } else {
+        Found::NotAlike
+    })
 }
 
 // Lays what stands on one sheet on another.
@@ -53,22 +50,15 @@ fn copy(from: &Sheet, to: &mut Sheet) -> Result<(), Full>
     Ok(())
 }
 
-fn kept(from: &Sheet, to: &mut Sheet) -> Outcome {
-    match copy(from, to) {
-        Ok(()) => Outcome::Kept,
-        Err(_) => Outcome::NoPlace,
-    }
+fn kept(from: &Sheet, to: &mut Sheet) -> Result<Found<'static>, Refusal> {
+    copy(from, to)?;
+    Ok(Found::Kept)
 }
 
-fn print_row(rt: &HostRuntime, number: u64, numbers: &[i64]) -> anyhow::Result<()> {
-    let row = Row(numbers);
-    println!(rt; "line {number}: numbers:{row}")?;
-    Ok(())
-}
-
-fn print_fault(rt: &HostRuntime, number: u64, fault: LineFault) -> anyhow::Result<()> {
-    println!(rt; "line {number}: bad line: {fault}")?;
-    Ok(())
+// The numbers of the sheet's dictionaries.
+fn numbered<'n>(sheet: &Sheet, told: &'n mut Roll<i64>) -> Result<Found<'n>, Refusal> {
+    dictionary_numbers(sheet, told)?;
+    Ok(Found::Numbers(told.as_slice()))
 }
 
 impl<'a> Desk<'a> {
@@ -81,65 +71,43 @@ impl<'a> Desk<'a> {
         }
     }
 
-    fn show(&self, rt: &HostRuntime, number: u64) -> anyhow::Result<()> {
-        let listing = Listing::new(self.heap, &self.sheet)?;
-        println!(rt; "line {number}: show:")?;
-        print!(rt; "{listing}")?;
-        Ok(())
+    fn show(&self, report: Report) -> anyhow::Result<()> {
+        report.listing(&Listing::new(self.heap, &self.sheet)?)
     }
 
-    fn tell_numbers(&self, rt: &HostRuntime, number: u64) -> anyhow::Result<()> {
+    fn tell_numbers(&self, report: Report) -> anyhow::Result<()> {
         let mut places = vec![in self.heap; 0; RECORDS]?;
         let mut told = Roll::new(places.as_mut_slice());
-        match dictionary_numbers(&self.sheet, &mut told) {
-            Ok(()) => print_row(rt, number, told.as_slice())?,
-            Err(refusal) => {
-                let outcome = untold(refusal);
-                println!(rt; "line {number}: numbers: {outcome}")?;
-            }
+        report.outcome(Command::Numbers, numbered(&self.sheet, &mut told))
+    }
+
+    fn run_command(&mut self, report: Report, command: Command) -> anyhow::Result<()> {
+        match command {
+            Command::Show => self.show(report),
+            Command::Numbers => self.tell_numbers(report),
+            Command::Check => report.outcome(command, checked(&self.sheet)),
+            Command::Keep => report.outcome(command, kept(&self.sheet, &mut self.kept)),
+            Command::Alike => report.outcome(command, compared(&self.sheet, &self.kept)),
         }
-        Ok(())
     }
 
-    fn run_command(
-        &mut self,
-        rt: &HostRuntime,
-        number: u64,
-        command: Command,
-    ) -> anyhow::Result<()> {
-        let outcome = match command {
-            Command::Show => return self.show(rt, number),
-            Command::Numbers => return self.tell_numbers(rt, number),
-            Command::Check => checked(&self.sheet),
-            Command::Keep => kept(&self.sheet, &mut self.kept),
-            Command::Alike => compared(&self.sheet, &self.kept),
-        };
-        let name = command.name();
-        println!(rt; "line {number}: {name}: {outcome}")?;
-        Ok(())
-    }
-
-    fn lay_line(&mut self, rt: &HostRuntime, number: u64, line: &[u8]) -> anyhow::Result<()> {
+    fn lay_line(&mut self, report: Report, line: &[u8]) -> anyhow::Result<()> {
         match self.filler.lay(self.heap, &mut self.sheet, line) {
-            Ok(Step::Passed) => {}
-            Ok(step) => {
-                let said = StepSaid {
-                    sheet: &self.sheet,
-                    step,
-                };
-                println!(rt; "line {number}: {said}")?;
-            }
-            Err(fault) => print_fault(rt, number, fault)?,
+            Ok(None) => Ok(()),
+            Ok(Some(step)) => report.step(StepSaid {
+                sheet: &self.sheet,
+                step,
+            }),
+            Err(fault) => report.fault(fault),
         }
-        Ok(())
     }
 
     /// Runs a line of a script, and prints what became of it.
-    pub fn run_line(&mut self, rt: &HostRuntime, number: u64, line: &[u8]) -> anyhow::Result<()> {
+    pub fn run_line(&mut self, report: Report, line: &[u8]) -> anyhow::Result<()> {
         match read_command(line) {
-            Ok(Some(command)) => self.run_command(rt, number, command),
-            Ok(None) => self.lay_line(rt, number, line),
-            Err(fault) => print_fault(rt, number, fault),
+            Ok(Some(command)) => self.run_command(report, command),
+            Ok(None) => self.lay_line(report, line),
+            Err(fault) => report.fault(fault),
         }
     }
 }

@@ -5,9 +5,11 @@ mod command;
 mod desk;
 mod memory;
 mod outcome;
+mod report;
 
 use crate::desk::Desk;
 use crate::memory::Memory;
+use crate::report::Report;
 use std::io::{BufRead, BufReader};
 
 fn run(rt: &HostRuntime) -> anyhow::Result<()> {
@@ -15,10 +17,9 @@ fn run(rt: &HostRuntime) -> anyhow::Result<()> {
     let mut first = Memory::new(heap)?;
     let mut second = Memory::new(heap)?;
     let mut desk = Desk::new(heap, first.sheet(), second.sheet());
-    let mut number: u64 = 0;
-    for line in BufReader::new(heap, rt.stdin())?.split(heap, b'\n') {
-        number = number.saturating_add(1);
-        desk.run_line(rt, number, line?.as_slice())?;
+    let lines = BufReader::new(heap, rt.stdin())?.split(heap, b'\n');
+    for (number, line) in (1..).zip(lines) {
+        desk.run_line(Report::new(rt, number), line?.as_slice())?;
     }
     Ok(())
 }

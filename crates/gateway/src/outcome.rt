@@ -1,6 +1,10 @@
-//! Outcomes in words: what a command found, and what a line of a listing did.
-use listing::fill::{Owner, Step};
+//! Outcomes in words: what a command found, why it was refused, and what a line of a listing did.
+ghost use Rattle.std.specs.Prelude.{◌≡◌};
+ghost use Rattle.gateway.specs.declared.outcome.Refusal.TheVariants.{Unlawful, NoPlace};
+
+use listing::fill::Step;
 use listing_show::quote::Quoted;
+use roll::Full;
 use rules::SheetRefusal;
 use schema::NumbersRefusal;
 use sheet::Sheet;
@@ -9,66 +13,76 @@ use types::Text;
 
 /// What a command found.
 #[derive(Clone, Copy)]
-pub enum Outcome {
+pub enum Found<'n> {
     Lawful,
-    Refused(SheetRefusal),
     Kept,
     Alike,
     NotAlike,
+    Numbers(&'n [i64]),
+}
+
+impl fmt::Display for Found<'_> {
+    fn fmt<W: fmt::Write>(&self, f: &mut fmt::Formatter<W>) -> fmt::Result {
+        match *self {
+            Found::Lawful => f.write_str("lawful"),
+            Found::Kept => f.write_str("kept"),
+            Found::Alike => f.write_str("alike"),
+            Found::NotAlike => f.write_str("not alike"),
+            Found::Numbers(numbers) => show_row(f, numbers),
+        }
+    }
+}
+
+// Numbers in a row, or a word that there are none.
+fn show_row<W: fmt::Write>(f: &mut fmt::Formatter<W>, numbers: &[i64]) -> fmt::Result {
+    let Some((first, rest)) = numbers.split_first() else {
+        return f.write_str("none");
+    };
+    write!(f, "{first}")?;
+    for n in rest {
+        write!(f, " {n}")?;
+    }
+    Ok(())
+}
+
+/// Why a command was refused.
+#[derive(Clone, Copy)]
+pub enum Refusal {
+    Unlawful(SheetRefusal),
     NoPlace,
 }
 
-fn refusal_words(refusal: SheetRefusal) -> &'static str {
-    match refusal {
-        SheetRefusal::TooLarge => "too large",
-        SheetRefusal::Counts => "counts do not fit",
-        SheetRefusal::TooDeep => "nested too deep",
-        SheetRefusal::Parameter => "type id, unit or zone",
-        SheetRefusal::BadText => "text",
-        SheetRefusal::RepeatedKey => "key repeated",
-    }
-}
-
-fn show_refusal<W: fmt::Write>(f: &mut fmt::Formatter<W>, refusal: SheetRefusal) -> fmt::Result {
-    let number = refusal.number();
-    let words = refusal_words(refusal);
-    write!(f, "refused {number} {words}")
-}
-
-impl fmt::Display for Outcome {
+impl fmt::Display for Refusal {
     fn fmt<W: fmt::Write>(&self, f: &mut fmt::Formatter<W>) -> fmt::Result {
-        match *self {
-            Outcome::Lawful => f.write_str("lawful"),
-            Outcome::Refused(refusal) => show_refusal(f, refusal),
-            Outcome::Kept => f.write_str("kept"),
-            Outcome::Alike => f.write_str("alike"),
-            Outcome::NotAlike => f.write_str("not alike"),
-            Outcome::NoPlace => f.write_str("no place left"),
+        match self {
+            Refusal::Unlawful(refusal) => write!(f, "refused {refusal}"),
+            Refusal::NoPlace => f.write_str("no place left"),
         }
     }
 }
 
-/// What became of a command where the dictionary numbers were not told.
-pub fn untold(refusal: NumbersRefusal) -> Outcome {
-    match refusal {
-        NumbersRefusal::OfSheet(refusal) => Outcome::Refused(refusal),
-        NumbersRefusal::Full => Outcome::NoPlace,
+impl From<SheetRefusal> for Refusal {
+    ghost from_gives = { λ e r. r ≡ Unlawful e };
+
+    fn from(e: SheetRefusal) -> Refusal {
+        Refusal::Unlawful(e)
     }
 }
 
-/// Numbers in a row, or a word that there are none.
-#[derive(Clone, Copy)]
-pub struct Row<'a>(pub &'a [i64]);
+impl From<Full> for Refusal {
+    ghost from_gives = { λ _ r. r ≡ NoPlace };
 
-impl fmt::Display for Row<'_> {
-    fn fmt<W: fmt::Write>(&self, f: &mut fmt::Formatter<W>) -> fmt::Result {
-        if self.0.is_empty() {
-            return f.write_str(" none");
+    fn from(_e: Full) -> Refusal {
+        Refusal::NoPlace
+    }
+}
+
+impl From<NumbersRefusal> for Refusal {
+    fn from(e: NumbersRefusal) -> Refusal {
+        match e {
+            NumbersRefusal::OfSheet(refusal) => Refusal::Unlawful(refusal),
+            NumbersRefusal::Full => Refusal::NoPlace,
         }
-        for n in self.0 {
-            write!(f, " {n}")?;
-        }
-        Ok(())
     }
 }
 
@@ -79,32 +93,26 @@ pub struct StepSaid<'s, 'a> {
     pub step: Step,
 }
 
-// A text that was just laid. It stands on the sheet, so the empty text is never shown in its place.
-fn quoted<'s>(sheet: &'s Sheet, t: Text) -> Quoted<'s> {
-    Quoted(sheet.text_of(t).unwrap_or(&[]))
+impl<'s> StepSaid<'s, '_> {
+    // A text that was just laid. It stands on the sheet, so the empty text is never shown in its place.
+    fn quoted(&self, t: Text) -> Quoted<'s> {
+        Quoted(self.sheet.text_of(t).unwrap_or(&[]))
+    }
 }
 
 impl fmt::Display for StepSaid<'_, '_> {
     fn fmt<W: fmt::Write>(&self, f: &mut fmt::Formatter<W>) -> fmt::Result {
         match self.step {
-            Step::Passed => Ok(()),
             Step::Emptied => f.write_str("schema: an empty sheet"),
-            Step::PairLaid {
-                key,
-                owner: Owner::Schema,
-            } => {
-                let key = quoted(self.sheet, key);
-                write!(f, "pair {key} laid for the schema")
+            Step::PairLaid { key, owner: None } => {
+                write!(f, "pair {} laid for the schema", self.quoted(key))
             }
             Step::PairLaid {
                 key,
-                owner: Owner::Record(i),
-            } => {
-                let key = quoted(self.sheet, key);
-                write!(f, "pair {key} laid for record {i}")
-            }
+                owner: Some(i),
+            } => { write!(f, "pair {} laid for record {i}", self.quoted(key)) }
             Step::FieldLaid { depth, name, place } => {
-                let name = quoted(self.sheet, name);
+                let name = self.quoted(name);
                 write!(f, "field {depth} {name} laid as record {place}")
             }
         }

@@ -5,8 +5,6 @@ use Rattle.types.specs.declared.Text.{Text}
 use Rattle.types.specs.declared.Pair.{Pair}
 use Rattle.types.specs.declared.FieldRecord.{FieldRecord}
 use Rattle.sheet.specs.Contents.{Content}
-use Rattle.listing.specs.declared.fill.Owner.{Owner}
-use Rattle.listing.specs.declared.fill.Owner.TheVariants.{Schema, Record}
 
 -- A text as it stands behind so many other bytes.
 abbrev pub moved_text : ℕ → Text → Text
@@ -58,13 +56,13 @@ pub record FieldLaid (c : Content) (bytes : List ℕ) (x : FieldRecord) (d : Con
   pub more_bytes : d.bytes ≡ c.bytes ++ bytes
   pub same_own : d.own ≡ c.own
 
--- A pair is the schema's before the first record, and then the last record's; the owner counts one more pair.
-abbrev pub Counted : Owner → Content → Content → Type 0
-Counted Schema c d = (length c.records ≡ 0) × (d.records ≡ c.records) × (d.own ≡ c.own + 1)
-Counted (Record i) c d = (length c.records ≡ i + 1) × ChangedAt more_pairs i c.records d.records × (d.own ≡ c.own)
+-- A pair is the schema's before the first record, and then the last record's; the owner, none for the schema, counts one more pair.
+abbrev pub Counted : Option ℕ → Content → Content → Type 0
+Counted None c d = (length c.records ≡ 0) × (d.records ≡ c.records) × (d.own ≡ c.own + 1)
+Counted (Some i) c d = (length c.records ≡ i + 1) × ChangedAt more_pairs i c.records d.records × (d.own ≡ c.own)
 
 -- One more pair, which its owner counts.
-abbrev pub PairAdded : Owner → Content → List ℕ → Pair → Content → Type 0
+abbrev pub PairAdded : Option ℕ → Content → List ℕ → Pair → Content → Type 0
 PairAdded o c bytes p d = Counted o c d × (d.pairs ≡ c.pairs ++ p ∷ []) × (d.bytes ≡ c.bytes ++ bytes)
 
 -- One more field, which the field above it counts as a child.

@@ -1,32 +1,24 @@
 //! Lines laid on a sheet, with the counts of their owners kept right.
-ghost use Rattle.std.specs.Prelude.{◌≡◌, ◌+◌, length, IfOk, Some, MatchResult, OnErr};
+ghost use Rattle.std.specs.Prelude.{◌≡◌, ◌<◌, length, IfOk, IfSome, None, MatchResult, OnOk, OnErr};
+ghost use Rattle.roll.specs.Rolls.{free};
 ghost use Rattle.sheet.specs.Contents.{content};
-ghost use Rattle.std.specs.List.{slice_get};
-ghost use Rattle.types.specs.declared.FieldRecord.{FieldRecord};
 ghost use Rattle.listing.specs.Filling.{moved_text, moved_pair, more_pairs, more_children, PairLaid, FieldLaid, PairAdded, FieldAdded};
 
 use crate::line::{FieldLine, Line, PairLine, read_line};
 use listing_words::fault::LineFault;
-use roll::fetch;
+use roll::Roll;
 use sheet::Sheet;
 use std::alloc::Global;
 use types::{DataType, FieldRecord, Pair, Text};
 
-/// Whose pair a pair is.
-#[derive(Clone, Copy)]
-pub enum Owner {
-    Schema,
-    Record(usize),
-}
-
 /// What a line did to a sheet.
 #[derive(Clone, Copy)]
 pub enum Step {
-    Passed,
     Emptied,
+    /// The owner is the place of a record, or none where the pair is the schema's.
     PairLaid {
         key: Text,
-        owner: Owner,
+        owner: Option<usize>,
     },
     FieldLaid {
         depth: usize,
@@ -39,10 +31,8 @@ pub enum Step {
 fn moved(t: Text, by: u32) -> Result<Text, LineFault>
     ensures { IfOk result (λ x. x ≡ moved_text by t) }
 {
-    let Some(start) = by.checked_add(t.start) else {
-        return Err(LineFault::NoPlace);
-    };
-    Ok(Text { start, len: t.len })
+    let start = by.checked_add(t.start).ok_or(LineFault::NoPlace)?;
+    Ok(Text { start, ..t })
 }
 
 fn moved_pair(pair: Pair, by: u32) -> Result<Pair, LineFault>
@@ -74,60 +64,49 @@ fn moved_field(field: FieldRecord, by: u32) -> Result<FieldRecord, LineFault> {
     })
 }
 
-// A count with one more.
-fn one_more(count: u32) -> Result<u32, LineFault>
-    ensures { IfOk result (λ n. n ≡ count + 1) }
-{
-    match count.checked_add(1) {
-        Some(n) => Ok(n),
-        None => Err(LineFault::NoPlace),
-    }
-}
-
 // How many text bytes are used, as a place of a text.
 fn text_end(sheet: &Sheet) -> Result<u32, LineFault>
     ensures { IfOk result (λ n. n ≡ length (content sheet.now).bytes) }
 {
-    let n = sheet.text.len();
-    if n > u32::MAX as usize {
-        Err(LineFault::NoPlace)
+    Ok(u32::try_from(sheet.text.len())?)
+}
+
+// A record with one more pair.
+fn with_pair(field: FieldRecord) -> Option<FieldRecord>
+    ensures { IfSome result (λ y. y ≡ more_pairs field) }
+{
+    let pairs = field.pairs.checked_add(1)?;
+    Some(FieldRecord { pairs, ..field })
+}
+
+// A record with one more child.
+fn with_child(field: FieldRecord) -> Option<FieldRecord>
+    ensures { IfSome result (λ y. y ≡ more_children field) }
+{
+    let children = field.children.checked_add(1)?;
+    Some(FieldRecord { children, ..field })
+}
+
+// Whether a roll has a free place.
+fn has_room<T: Copy>(roll: &Roll<T>) -> Result<(), LineFault>
+    ensures { OnOk result (0 < length (free roll.now)) }
+{
+    if roll.len() < roll.capacity() {
+        Ok(())
     } else {
-        Ok(n as u32)
+        Err(LineFault::NoPlace)
     }
 }
 
-// The record at a place with one more pair.
-fn with_pair(sheet: &Sheet, i: usize) -> Result<FieldRecord, LineFault>
-    ensures { IfOk result (λ y. (x : FieldRecord) × (slice_get (content sheet.now).records i ≡ Some x) × (y ≡ more_pairs x)) }
-{
-    let Some(field) = sheet.records.get(i) else {
-        return Err(LineFault::NoPlace);
-    };
-    let pairs = one_more(field.pairs)?;
-    Ok(FieldRecord { pairs, ..field })
-}
-
-// The record at a place with one more child.
-fn with_child(sheet: &Sheet, i: usize) -> Result<FieldRecord, LineFault>
-    ensures { IfOk result (λ y. (x : FieldRecord) × (slice_get (content sheet.now).records i ≡ Some x) × (y ≡ more_children x)) }
-{
-    let Some(field) = sheet.records.get(i) else {
-        return Err(LineFault::NoPlace);
-    };
-    let children = one_more(field.children)?;
-    Ok(FieldRecord { children, ..field })
-}
-
 // Lays the bytes of a pair and the pair, or nothing.
+// Kept: this and `lay_field` differ in the roll that they fill; a trait that tells a roll's room and fills it is longer than both.
 fn lay_pair(sheet: &mut Sheet, text: &[u8], pair: Pair) -> Result<(), LineFault>
     ensures { MatchResult result (λ _. PairLaid (content sheet.old) text.now pair (content sheet.new)) (λ _. content sheet.new ≡ content sheet.old) }
 {
     // Room for the pair is looked for first, so that a refusal finds no bytes laid.
-    if sheet.pairs.len() >= sheet.pairs.capacity() {
-        return Err(LineFault::NoPlace);
-    }
+    has_room(&sheet.pairs)?;
     sheet.add_text(text)?;
-    let _ = sheet.pairs.add(pair);
+    sheet.pairs.add(pair).unwrap();
     Ok(())
 }
 
@@ -135,29 +114,30 @@ fn lay_pair(sheet: &mut Sheet, text: &[u8], pair: Pair) -> Result<(), LineFault>
 fn lay_field(sheet: &mut Sheet, text: &[u8], field: FieldRecord) -> Result<(), LineFault>
     ensures { MatchResult result (λ _. FieldLaid (content sheet.old) text.now field (content sheet.new)) (λ _. content sheet.new ≡ content sheet.old) }
 {
-    if sheet.records.len() >= sheet.records.capacity() {
-        return Err(LineFault::NoPlace);
-    }
+    has_room(&sheet.records)?;
     sheet.add_text(text)?;
-    let _ = sheet.records.add(field);
+    sheet.records.add(field).unwrap();
     Ok(())
 }
 
-// Lays a pair of the schema, or of the last record where there is one, and counts it.
-fn place_pair(sheet: &mut Sheet, text: &[u8], pair: Pair) -> Result<Owner, LineFault>
+// Lays a pair of the last record, or of the schema where there is none, and counts it.
+fn place_pair(sheet: &mut Sheet, text: &[u8], pair: Pair) -> Result<Option<usize>, LineFault>
     ensures { MatchResult result (λ o. PairAdded o (content sheet.old) text.now pair (content sheet.new)) (λ _. content sheet.new ≡ content sheet.old) }
 {
-    let n = sheet.records.len();
-    if n == 0 {
-        let own = one_more(sheet.own_pairs)?;
+    let Some(last) = sheet.records.len().checked_sub(1) else {
+        let own = sheet.own_pairs.checked_add(1).ok_or(LineFault::NoPlace)?;
         lay_pair(sheet, text, pair)?;
         sheet.own_pairs = own;
-        return Ok(Owner::Schema);
-    }
-    let counted = with_pair(sheet, n - 1)?;
+        return Ok(None);
+    };
+    let counted = sheet
+        .records
+        .get(last)
+        .and_then(with_pair)
+        .ok_or(LineFault::NoPlace)?;
     lay_pair(sheet, text, pair)?;
-    let _ = sheet.records.replace(n - 1, counted);
-    Ok(Owner::Record(n - 1))
+    let _ = sheet.records.replace(last, counted);
+    Ok(Some(last))
 }
 
 // Lays a field, and counts it with the field above it where there is one.
@@ -172,7 +152,11 @@ fn place_field(
     let Some(i) = parent else {
         return lay_field(sheet, text, field);
     };
-    let counted = with_child(sheet, i)?;
+    let counted = sheet
+        .records
+        .get(i)
+        .and_then(with_child)
+        .ok_or(LineFault::NoPlace)?;
     lay_field(sheet, text, field)?;
     let _ = sheet.records.replace(i, counted);
     Ok(())
@@ -206,15 +190,15 @@ impl Filler {
 
     // The field above one at this depth: none at depth 1, and refused where no such field is open.
     fn parent(&self, depth: usize) -> Result<Option<usize>, LineFault> {
-        if depth == 0 {
-            return Err(LineFault::Depth);
-        }
-        if depth == 1 {
-            return Ok(None);
-        }
-        match fetch(self.path.as_slice(), depth - 2) {
-            Some(place) => Ok(Some(place)),
-            None => Err(LineFault::Depth),
+        match depth {
+            0 => Err(LineFault::Depth),
+            1 => Ok(None),
+            _ => self
+                .path
+                .get(depth - 2)
+                .copied()
+                .map(Some)
+                .ok_or(LineFault::Depth),
         }
     }
 
@@ -240,19 +224,29 @@ impl Filler {
         })
     }
 
-    /// Lays a line on the sheet. A bad line leaves what stands on the sheet as it was.
-    pub fn lay(&mut self, heap: Global, sheet: &mut Sheet, line: &[u8]) -> Result<Step, LineFault>
-        ensures { OnErr result (content sheet.new ≡ content sheet.old) }
+    /// Lays a line on the sheet, and tells what it did, or nothing where the line says nothing.
+    /// A bad line, and one that says nothing, leave what stands on the sheet as it was.
+    pub fn lay(
+        &mut self,
+        heap: Global,
+        sheet: &mut Sheet,
+        line: &[u8],
+    ) -> Result<Option<Step>, LineFault>
+        ensures bad { OnErr result (content sheet.new ≡ content sheet.old) }
+        ensures silent { IfOk result (λ step. step ≡ None → content sheet.new ≡ content sheet.old) }
     {
-        match read_line(heap, line)? {
-            Line::Blank => Ok(Step::Passed),
+        let Some(said) = read_line(heap, line)? else {
+            return Ok(None);
+        };
+        let step = match said {
             Line::Schema => {
                 sheet.clear();
                 self.path.clear();
-                Ok(Step::Emptied)
+                Step::Emptied
             }
-            Line::Pair(pair) => add_pair(sheet, &pair),
-            Line::Field(field) => self.add_field(sheet, &field),
-        }
+            Line::Pair(pair) => add_pair(sheet, &pair)?,
+            Line::Field(field) => self.add_field(sheet, &field)?,
+        };
+        Ok(Some(step))
     }
 }

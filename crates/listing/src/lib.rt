@@ -3,6 +3,7 @@
 
 pub mod fill;
 pub mod line;
+pub mod reader;
 pub mod type_words;
 
-pub use fill::{Filler, Owner, Step};
+pub use fill::{Filler, Step};

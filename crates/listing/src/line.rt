@@ -1,8 +1,10 @@
 //! A line of a listing as a value, apart from any sheet.
-use crate::type_words::read_type;
+ghost use Rattle.std.specs.Prelude.{◌≡◌, ◌+◌, [], length, IfOk};
+
+use crate::reader::LineReader;
 use listing_words::fault::LineFault;
-use listing_words::names::{Keyword, by_name, next_keyword};
-use listing_words::token::{Cursor, quoted_text};
+use listing_words::names::Keyword;
+use listing_words::token::Cursor;
 use std::alloc::Global;
 use types::{Dictionary, FieldRecord, Pair};
 
@@ -21,47 +23,24 @@ pub struct FieldLine {
     pub field: FieldRecord,
 }
 
-/// What a line says. A blank one and a remark say nothing.
+/// What a line says.
 #[derive(Drop)]
 pub enum Line {
-    Blank,
     Schema,
     Pair(PairLine),
     Field(FieldLine),
 }
 
-fn read_pair(heap: Global, cursor: &mut Cursor) -> Result<PairLine, LineFault> {
-    let mut text = Vec::new(heap);
-    let key = quoted_text(cursor, &mut text)?;
-    let value = quoted_text(cursor, &mut text)?;
-    Ok(PairLine {
-        text,
-        pair: Pair { key, value },
-    })
-}
-
-fn read_nullable(cursor: &mut Cursor) -> Result<bool, LineFault> {
-    match next_keyword(cursor) {
-        Some(Keyword::Nullable) => Ok(true),
-        Some(Keyword::Required) => Ok(false),
-        _ => Err(LineFault::Nullability),
-    }
-}
-
-fn read_ordered(cursor: &mut Cursor) -> Result<bool, LineFault> {
-    match next_keyword(cursor) {
-        Some(Keyword::Ordered) => Ok(true),
-        Some(Keyword::Unordered) => Ok(false),
-        _ => Err(LineFault::DictionaryWanted),
-    }
-}
-
 // The number may be left out, and is then 0.
 fn read_dictionary(cursor: &mut Cursor) -> Result<Dictionary, LineFault> {
     cursor.expect(b'(', LineFault::DictionaryWanted)?;
-    let index_type = by_name(cursor.word()).ok_or(LineFault::DictionaryWanted)?;
+    let index_type = cursor.named().ok_or(LineFault::DictionaryWanted)?;
     cursor.expect(b',', LineFault::DictionaryWanted)?;
-    let ordered = read_ordered(cursor)?;
+    let ordered = cursor.either(
+        Keyword::Ordered,
+        Keyword::Unordered,
+        LineFault::DictionaryWanted,
+    )?;
     let number = if cursor.takes(b',') {
         cursor.number()?
     } else {
@@ -85,7 +64,7 @@ fn read_last_id(cursor: &mut Cursor) -> Result<u8, LineFault> {
     if cursor.at_end() {
         return Ok(0);
     }
-    match next_keyword(cursor) {
+    match cursor.named() {
         Some(Keyword::Id) => read_type_id(cursor),
         _ => Err(LineFault::Trailing),
     }
@@ -96,47 +75,68 @@ fn read_options(cursor: &mut Cursor) -> Result<(Option<Dictionary>, u8), LineFau
     if cursor.at_end() {
         return Ok((None, 0));
     }
-    match next_keyword(cursor) {
+    match cursor.named() {
         Some(Keyword::Id) => Ok((None, read_type_id(cursor)?)),
         Some(Keyword::Dictionary) => Ok((Some(read_dictionary(cursor)?), read_last_id(cursor)?)),
         _ => Err(LineFault::Trailing),
     }
 }
 
-fn read_field(heap: Global, cursor: &mut Cursor) -> Result<FieldLine, LineFault> {
-    let depth = cursor.number()?;
-    let mut text = Vec::new(heap);
-    let name = quoted_text(cursor, &mut text)?;
-    let data_type = read_type(cursor, &mut text)?;
-    let nullable = read_nullable(cursor)?;
-    let (dictionary, type_id) = read_options(cursor)?;
-    let field = FieldRecord {
-        name,
-        nullable,
-        data_type,
-        dictionary,
-        children: 0,
-        pairs: 0,
-        type_id,
-    };
-    Ok(FieldLine { depth, text, field })
+impl LineReader<'_> {
+    // The two texts of a pair, which are all that its line says.
+    fn pair(mut self) -> Result<PairLine, LineFault>
+        requires { self.text.items ≡ [] }
+        ensures { IfOk result (λ l. (l.pair.key.start ≡ 0) × (l.pair.value.start ≡ l.pair.key.len) × (l.pair.key.len + l.pair.value.len ≡ length l.text.items)) }
+    {
+        let key = self.quoted()?;
+        let value = self.quoted()?;
+        Ok(PairLine {
+            text: self.end()?,
+            pair: Pair { key, value },
+        })
+    }
+
+    fn field(mut self) -> Result<FieldLine, LineFault> {
+        let depth = self.cursor.number()?;
+        let name = self.quoted()?;
+        let data_type = self.data_type()?;
+        let nullable = self.cursor.either(
+            Keyword::Nullable,
+            Keyword::Required,
+            LineFault::Nullability,
+        )?;
+        let (dictionary, type_id) = read_options(&mut self.cursor)?;
+        let field = FieldRecord {
+            name,
+            nullable,
+            data_type,
+            dictionary,
+            children: 0,
+            pairs: 0,
+            type_id,
+        };
+        Ok(FieldLine {
+            depth,
+            text: self.end()?,
+            field,
+        })
+    }
 }
 
-/// Reads a line of a listing.
-pub fn read_line(heap: Global, line: &[u8]) -> Result<Line, LineFault> {
-    let mut cursor = Cursor::new(line);
-    if cursor.at_end() || cursor.takes(b'#') {
-        return Ok(Line::Blank);
+/// Reads a line of a listing. A blank one and a remark say nothing.
+pub fn read_line(heap: Global, line: &[u8]) -> Result<Option<Line>, LineFault> {
+    let mut reader = LineReader::new(heap, line);
+    if reader.cursor.at_end() || reader.cursor.takes(b'#') {
+        return Ok(None);
     }
-    let said = match next_keyword(&mut cursor) {
-        Some(Keyword::Schema) => Line::Schema,
-        Some(Keyword::Pair) => Line::Pair(read_pair(heap, &mut cursor)?),
-        Some(Keyword::Field) => Line::Field(read_field(heap, &mut cursor)?),
+    let said = match reader.cursor.named() {
+        Some(Keyword::Schema) => {
+            reader.cursor.expect_end()?;
+            Line::Schema
+        }
+        Some(Keyword::Pair) => Line::Pair(reader.pair()?),
+        Some(Keyword::Field) => Line::Field(reader.field()?),
         _ => return Err(LineFault::UnknownCommand),
     };
-    if cursor.at_end() {
-        Ok(said)
-    } else {
-        Err(LineFault::Trailing)
-    }
+    Ok(Some(said))
 }

@@ -5,6 +5,7 @@ ghost use Rattle.listing_words.specs.declared.fault.LineFault.TheVariants.{Memor
 use roll::Full;
 use std::alloc::{AllocError, AllocFailed};
 use std::fmt;
+use std::num::TryFromIntError;
 
 /// Why a line was not taken.
 #[derive(Clone, Copy, PartialEq, Eq, Debug)]
@@ -70,6 +71,15 @@ impl From<Full> for LineFault {
     ghost from_gives = { λ _ r. r ≡ NoPlace };
 
     fn from(_e: Full) -> LineFault {
+        LineFault::NoPlace
+    }
+}
+
+/// A number that is too large for a place of a text.
+impl From<TryFromIntError> for LineFault {
+    ghost from_gives = { λ _ r. r ≡ NoPlace };
+
+    fn from(_e: TryFromIntError) -> LineFault {
         LineFault::NoPlace
     }
 }

@@ -1,8 +1,9 @@
 //! The names of types, units, modes and index types, and the one look-up that reads them.
-ghost use Rattle.std.specs.Prelude.{◌≡◌, ℕ, List, IfSome};
+ghost use Rattle.std.specs.Prelude.{◌≡◌, ℕ, List, ◌++◌, IfSome, IfOk, if◌then◌else◌};
 ghost use Rattle.listing_words.specs.Names.{unit_name, interval_name, mode_name, index_name, type_name};
 ghost use Rattle.listing_words.specs.Keywords.{keyword_name};
 
+use crate::fault::LineFault;
 use crate::token::Cursor;
 use types::{DataType, IndexType, IntervalUnit, TimeUnit, UnionMode};
 
@@ -17,19 +18,42 @@ pub trait Named: Copy + 'static {
 }
 
 /// The value of the row that a word spells.
-pub fn by_name<T: Named + 'static>(word: &[u8]) -> Option<T>
+pub fn by_name<T: Named>(word: &[u8]) -> Option<T>
     ensures { IfSome result (λ x. T.Named.spelling x ≡ word.now) }
 {
-    for x in T::all() {
-        if x.name().as_bytes() == word {
-            return Some(*x);
+    T::all()
+        .iter()
+        .copied()
+        .find(|x| x.name().as_bytes() == word)
+}
+
+impl Cursor<'_> {
+    /// The value of the row that the next word spells.
+    pub fn named<T: Named>(&mut self) -> Option<T>
+        ensures { IfSome result (λ x. (spaces : List ℕ) × (self.old.rest.now ≡ spaces ++ (T.Named.spelling x ++ self.new.rest.now))) }
+    {
+        by_name(self.word())
+    }
+
+    /// Whether the first of two keywords stands next, or the other. Any other word is the fault.
+    pub fn either(
+        &mut self,
+        first: Keyword,
+        other: Keyword,
+        fault: LineFault,
+    ) -> Result<bool, LineFault>
+        ensures { IfOk result (λ b. (spaces : List ℕ) × (self.old.rest.now ≡ spaces ++ (keyword_name (if b then first else other) ++ self.new.rest.now))) }
+    {
+        match self.named::<Keyword>() {
+            Some(k) if k == first => Ok(true),
+            Some(k) if k == other => Ok(false),
+            _ => Err(fault),
         }
     }
-    None
 }
 
 /// The words of a listing that are no names of types.
-#[derive(Clone, Copy)]
+#[derive(Clone, Copy, PartialEq, Eq, Debug)]
 pub enum Keyword {
     Schema,
     Pair,
@@ -81,11 +105,6 @@ static KEYWORDS: [Keyword; 11] = [
     Keyword::Unsorted,
     Keyword::Id,
 ];
-
-/// The next word of a line, where it is a keyword.
-pub fn next_keyword(cursor: &mut Cursor) -> Option<Keyword> {
-    by_name(cursor.word())
-}
 
 impl Named for TimeUnit {
     ghost spelling = { unit_name };
