@@ -1,5 +1,7 @@
 //! Lines laid on a sheet, with the counts of their owners kept right.
-ghost use Rattle.std.specs.Prelude.{◌≡◌, ◌<◌, length, IfOk, IfSome, None, MatchResult, OnOk, OnErr};
+ghost use Rattle.std.specs.Prelude.{◌≡◌, ◌-◌, ◌<◌, [], ◌∷◌, ◌++◌, length, take, vec_len, IfOk, IfSome, Some, None, MatchOption, MatchResult, OnOk, OnErr};
+ghost use Rattle.std.specs.Vec.{vec_capacity};
+ghost use Rattle.std.specs.List.{slice_get};
 ghost use Rattle.roll.specs.Rolls.{free};
 ghost use Rattle.sheet.specs.Contents.{content};
 ghost use Rattle.listing.specs.Filling.{moved_text, moved_pair, more_pairs, more_children, PairLaid, FieldLaid, PairAdded, FieldAdded};
@@ -189,7 +191,9 @@ impl Filler {
     }
 
     // The field above one at this depth: none at depth 1, and refused where no such field is open.
-    fn parent(&self, depth: usize) -> Result<Option<usize>, LineFault> {
+    fn parent(&self, depth: usize) -> Result<Option<usize>, LineFault>
+        ensures { IfOk result (λ p. MatchOption p (depth ≡ 1) (λ i. slice_get self.now.path.items (depth - 2) ≡ Some i)) }
+    {
         match depth {
             0 => Err(LineFault::Depth),
             1 => Ok(None),
@@ -203,9 +207,12 @@ impl Filler {
     }
 
     // The new record ends the path at its depth. The path had room for it before the sheet was changed.
-    fn open(&mut self, depth: usize, place: usize) {
+    fn open(&mut self, depth: usize, place: usize)
+        requires { vec_len self.old.path < vec_capacity self.old.path }
+        ensures { self.new.path.items ≡ take (depth - 1) self.old.path.items ++ place ∷ [] }
+    {
         self.path.truncate(depth.saturating_sub(1));
-        let _ = self.path.push(place);
+        self.path.push(place).unwrap();
     }
 
     fn add_field(&mut self, sheet: &mut Sheet, line: &FieldLine) -> Result<Step, LineFault>
