@@ -5,6 +5,8 @@ use Rattle.types.specs.declared.Text.{Text}
 use Rattle.types.specs.declared.Pair.{Pair}
 use Rattle.types.specs.declared.FieldRecord.{FieldRecord}
 use Rattle.sheet.specs.Contents.{Content}
+use Rattle.listing.specs.declared.fill.Step.{Step}
+use Rattle.listing.specs.declared.fill.Step.TheVariants.{Emptied as EmptiedStep, PairLaid as PairStep, FieldLaid as FieldStep}
 
 -- A text as it stands behind so many other bytes.
 abbrev pub moved_text : ℕ → Text → Text
@@ -71,3 +73,10 @@ FieldAdded None c bytes x d = FieldLaid c bytes x d
 FieldAdded (Some i) c bytes x d =
     ((y : FieldRecord) × (slice_get c.records i ≡ Some y) × (d.records ≡ slice_set (c.records ++ x ∷ []) i (more_children y)))
     × (d.pairs ≡ c.pairs) × (d.bytes ≡ c.bytes ++ bytes) × (d.own ≡ c.own)
+
+-- What a line did: it took everything off, or added a pair to its owner, or a field behind the others.
+abbrev pub Did : Step → Content → Content → Type 0
+Did EmptiedStep c d = d ≡ record { records = []; pairs = []; bytes = []; own = 0 }
+Did (PairStep key owner) c d = (bytes : List ℕ) × ((p : Pair) × (p.key ≡ key) × PairAdded owner c bytes p d)
+Did (FieldStep depth name place) c d =
+    (parent : Option ℕ) × ((bytes : List ℕ) × ((x : FieldRecord) × (x.name ≡ name) × (place ≡ length c.records) × FieldAdded parent c bytes x d))

@@ -1,10 +1,10 @@
 //! Lines laid on a sheet, with the counts of their owners kept right.
-ghost use Rattle.std.specs.Prelude.{◌≡◌, ◌-◌, ◌<◌, [], ◌∷◌, ◌++◌, length, take, vec_len, IfOk, IfSome, Some, None, MatchOption, MatchResult, OnOk, OnErr};
+ghost use Rattle.std.specs.Prelude.{◌≡◌, ◌-◌, ◌<◌, [], ◌∷◌, ◌++◌, length, take, vec_len, IfOk, IfSome, Some, MatchOption, MatchResult, OnOk, OnErr};
 ghost use Rattle.std.specs.Vec.{vec_capacity};
 ghost use Rattle.std.specs.List.{slice_get};
 ghost use Rattle.roll.specs.Rolls.{free};
 ghost use Rattle.sheet.specs.Contents.{content};
-ghost use Rattle.listing.specs.Filling.{moved_text, moved_pair, more_pairs, more_children, PairLaid, FieldLaid, PairAdded, FieldAdded};
+ghost use Rattle.listing.specs.Filling.{moved_text, moved_pair, more_pairs, more_children, PairLaid, FieldLaid, PairAdded, FieldAdded, Did};
 
 use crate::line::{FieldLine, Line, PairLine, read_line};
 use listing_words::fault::LineFault;
@@ -166,7 +166,7 @@ fn place_field(
 
 // Lays the pair that a line says.
 fn add_pair(sheet: &mut Sheet, line: &PairLine) -> Result<Step, LineFault>
-    ensures { OnErr result (content sheet.new ≡ content sheet.old) }
+    ensures { MatchResult result (λ s. Did s (content sheet.old) (content sheet.new)) (λ _. content sheet.new ≡ content sheet.old) }
 {
     let pair = moved_pair(line.pair, text_end(sheet)?)?;
     let owner = place_pair(sheet, line.text.as_slice(), pair)?;
@@ -216,7 +216,7 @@ impl Filler {
     }
 
     fn add_field(&mut self, sheet: &mut Sheet, line: &FieldLine) -> Result<Step, LineFault>
-        ensures { OnErr result (content sheet.new ≡ content sheet.old) }
+        ensures { MatchResult result (λ s. Did s (content sheet.old) (content sheet.new)) (λ _. content sheet.new ≡ content sheet.old) }
     {
         let parent = self.parent(line.depth)?;
         self.path.try_reserve(1)?;
@@ -240,7 +240,7 @@ impl Filler {
         line: &[u8],
     ) -> Result<Option<Step>, LineFault>
         ensures bad { OnErr result (content sheet.new ≡ content sheet.old) }
-        ensures silent { IfOk result (λ step. step ≡ None → content sheet.new ≡ content sheet.old) }
+        ensures done { IfOk result (λ step. MatchOption step (content sheet.new ≡ content sheet.old) (λ s. Did s (content sheet.old) (content sheet.new))) }
     {
         let Some(said) = read_line(heap, line)? else {
             return Ok(None);
