@@ -50,7 +50,9 @@ fn copy(from: &Sheet, to: &mut Sheet) -> Result<(), Full>
     Ok(())
 }
 
-fn kept(from: &Sheet, to: &mut Sheet) -> Result<Found<'static>, Refusal> {
+fn kept(from: &Sheet, to: &mut Sheet) -> Result<Found<'static>, Refusal>
+    ensures { OnOk result (content to.new ≡ content from.now) }
+{
     copy(from, to)?;
     Ok(Found::Kept)
 }
