@@ -6,7 +6,7 @@ use listing_words::fault::LineFault;
 use listing_words::names::Named;
 use std::fmt;
 
-/// A line of a script by its number, and where it is printed what became of it.
+/// The number of a script's line, and where what became of the line is printed.
 #[derive(Clone, Copy)]
 pub struct Report<'r> {
     rt: &'r HostRuntime,
@@ -18,6 +18,7 @@ impl<'r> Report<'r> {
         Report { rt, number }
     }
 
+    // What became of the line, with what that is about.
     fn tell(self, about: &str, said: impl fmt::Display + Drop) -> anyhow::Result<()> {
         println!(self.rt; "line {}: {about}: {said}", self.number)?;
         Ok(())

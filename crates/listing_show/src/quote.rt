@@ -21,6 +21,7 @@ fn show_chars<W: fmt::Write>(f: &mut fmt::Formatter<W>, s: &str) -> fmt::Result 
     Ok(())
 }
 
+// Bytes that are no part of a character, each as an escape.
 fn show_bytes<W: fmt::Write>(f: &mut fmt::Formatter<W>, bytes: &[u8]) -> fmt::Result {
     for b in bytes {
         write!(f, "\\x{b:02x}")?;
