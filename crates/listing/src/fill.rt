@@ -30,6 +30,7 @@ pub enum Step {
 }
 
 // A text of a line, as it stands once the line's texts are laid behind so many bytes.
+// Kept: this and the next three each follow the shape of what they move; a trait over them would add a name and no shorter body.
 fn moved(t: Text, by: u32) -> Result<Text, LineFault>
     ensures { IfOk result (λ x. x ≡ moved_text by t) }
 {
@@ -74,6 +75,7 @@ fn text_end(sheet: &Sheet) -> Result<u32, LineFault>
 }
 
 // A record with one more pair.
+// Kept: this and `with_child` name different counts; a closure that reaches a count is as long as either.
 fn with_pair(field: FieldRecord) -> Option<FieldRecord>
     ensures { IfSome result (λ y. y ≡ more_pairs field) }
 {
