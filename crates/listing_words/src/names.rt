@@ -8,7 +8,7 @@ use crate::token::Cursor;
 use types::{DataType, IndexType, IntervalUnit, TimeUnit, UnionMode};
 
 /// A value that is spelt by a name, one of a fixed row of values.
-// Kept: one table of values and names would make `name` a search, and a type with parameters has no row of its own in it.
+// Kept: one table of values and names would make `name` a look-up, and a type with parameters has no row of its own in it.
 pub trait Named: Copy + 'static {
     ghost spelling: { Self → List ℕ };
 
