@@ -54,14 +54,8 @@ pub fn unit_fits(t: DataType) -> bool
     ensures { result ≡ unit_fits t }
 {
     match t {
-        DataType::Time32(unit) => match unit {
-            TimeUnit::Second | TimeUnit::Millisecond => true,
-            TimeUnit::Microsecond | TimeUnit::Nanosecond => false,
-        },
-        DataType::Time64(unit) => match unit {
-            TimeUnit::Second | TimeUnit::Millisecond => false,
-            TimeUnit::Microsecond | TimeUnit::Nanosecond => true,
-        },
+        DataType::Time32(unit) => matches!(unit, TimeUnit::Second | TimeUnit::Millisecond),
+        DataType::Time64(unit) => matches!(unit, TimeUnit::Microsecond | TimeUnit::Nanosecond),
         _ => true,
     }
 }
