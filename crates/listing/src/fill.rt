@@ -1,6 +1,5 @@
 //! Lines laid on a sheet, with the counts of their owners kept right.
-ghost use Rattle.std.specs.Prelude.{◌≡◌, ◌-◌, ◌<◌, [], ◌∷◌, ◌++◌, length, take, vec_len, IfOk, IfSome, Some, MatchOption, MatchResult, OnOk, OnErr};
-ghost use Rattle.std.specs.Vec.{vec_capacity};
+ghost use Rattle.std.specs.Prelude.{◌≡◌, ◌-◌, ◌<◌, length, IfOk, IfSome, Some, MatchOption, MatchResult, OnOk, OnErr};
 ghost use Rattle.std.specs.List.{slice_get};
 ghost use Rattle.roll.specs.Rolls.{free};
 ghost use Rattle.sheet.specs.Contents.{content};
@@ -208,15 +207,6 @@ impl Filler {
         }
     }
 
-    // The new record ends the path at its depth. The path had room for it before the sheet was changed.
-    fn open(&mut self, depth: usize, place: usize)
-        requires { vec_len self.old.path < vec_capacity self.old.path }
-        ensures { self.new.path.items ≡ take (depth - 1) self.old.path.items ++ place ∷ [] }
-    {
-        self.path.truncate(depth.saturating_sub(1));
-        self.path.push(place).unwrap();
-    }
-
     fn add_field(&mut self, sheet: &mut Sheet, line: &FieldLine) -> Result<Step, LineFault>
         ensures { MatchResult result (λ s. Did s (content sheet.old) (content sheet.new)) (λ _. content sheet.new ≡ content sheet.old) }
     {
@@ -225,7 +215,9 @@ impl Filler {
         let field = moved_field(line.field, text_end(sheet)?)?;
         let place = sheet.records.len();
         place_field(sheet, line.text.as_slice(), field, parent)?;
-        self.open(line.depth, place);
+        // The new record ends the path at its depth. The path had room for it before the sheet was changed.
+        self.path.truncate(line.depth.saturating_sub(1));
+        self.path.push(place).unwrap();
         Ok(Step::FieldLaid {
             depth: line.depth,
             name: field.name,
