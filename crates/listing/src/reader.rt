@@ -14,7 +14,8 @@ pub struct LineReader<'a> {
 }
 
 impl<'a> LineReader<'a> {
-    pub fn new(heap: Global, line: &'a [u8]) -> LineReader<'a>
+    // Nothing of the line was read yet.
+    pub(crate) fn new(heap: Global, line: &'a [u8]) -> LineReader<'a>
         ensures { result.text.items ≡ [] }
     {
         LineReader {

@@ -1,4 +1,6 @@
 //! Types with their parameters, as they are read from a line.
+ghost use Rattle.std.specs.Prelude.{◌≡◌, ℕ, List, ◌++◌, OnOk};
+
 use crate::reader::LineReader;
 use listing_words::fault::LineFault;
 use listing_words::names::{Keyword, Named};
@@ -45,7 +47,9 @@ pub fn has_parameters(t: DataType) -> bool {
 
 impl LineReader<'_> {
     // A unit, and a zone where a comma says that one follows.
-    fn unit_and_zone(&mut self) -> Result<(TimeUnit, Option<Text>), LineFault> {
+    fn unit_and_zone(&mut self) -> Result<(TimeUnit, Option<Text>), LineFault>
+        ensures { OnOk result ((more : List ℕ) × (self.new.text.items ≡ self.old.text.items ++ more)) }
+    {
         let unit = named_parameter(&mut self.cursor)?;
         let zone = if self.cursor.takes(b',') {
             Some(self.quoted()?)
@@ -56,7 +60,9 @@ impl LineReader<'_> {
     }
 
     // The same type, with the parameters that the line gives it.
-    fn with_parameters(&mut self, plain: DataType) -> Result<DataType, LineFault> {
+    fn with_parameters(&mut self, plain: DataType) -> Result<DataType, LineFault>
+        ensures { OnOk result ((more : List ℕ) × (self.new.text.items ≡ self.old.text.items ++ more)) }
+    {
         let cursor = &mut self.cursor;
         Ok(match plain {
             DataType::FixedSizeBinary(_) => DataType::FixedSizeBinary(cursor.number()?),
@@ -84,7 +90,9 @@ impl LineReader<'_> {
     }
 
     /// A type. The bytes of a zone go behind those that the line's earlier texts gave.
-    pub fn data_type(&mut self) -> Result<DataType, LineFault> {
+    pub fn data_type(&mut self) -> Result<DataType, LineFault>
+        ensures { OnOk result ((more : List ℕ) × (self.new.text.items ≡ self.old.text.items ++ more)) }
+    {
         let plain = self.cursor.named().ok_or(LineFault::UnknownType)?;
         if !has_parameters(plain) {
             return Ok(plain);
