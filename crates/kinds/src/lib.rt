@@ -235,14 +235,7 @@ impl TagOf {
     pub fn kind(self, tag: i64) -> Option<Kind>
         ensures { result ≡ by_tag self tag }
     {
-        let kinds = self.kinds();
-        if tag < 1 {
-            return None;
-        }
-        let n = tag as usize;
-        if n > kinds.len() {
-            return None;
-        }
-        Some(kinds[n - 1])
+        let n = usize::try_from(tag).ok()?.checked_sub(1)?;
+        self.kinds().get(n).copied()
     }
 }

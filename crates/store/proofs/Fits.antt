@@ -1,51 +1,30 @@
--- The loops that look whether slots and places are filled.
-use Rattle.std.proofs.Common.{◌≡◌, ℕ, suc, ◌+◌, ◌<◌, ◌≤◌, Bool, true, false, ◌&&◌, List, [], ◌∷◌, length, get_or, drop, is_some, Some, None, Option, sym, refl, ap, ◌∙◌, ap₂, arith}
-use Rattle.std.proofs.lemmas.List.{drop_more, drop_all}
+-- Whether places and slots are filled, asked of one after another.
+use Rattle.std.proofs.Common.{◌≡◌, ◌⊎◌, inl, inr, ℕ, suc, ◌+◌, ap₂, Bool, true, false, ◌&&◌, List, [], ◌∷◌, length, slice_get, is_some, Some, None, Option, sym, refl, ap, ◌∙◌, arith}
+use Rattle.std.specs.List.{list_all, range_with_len}
+use Rattle.std.specs.Option.{option_map}
 use Rattle.kinds.specs.declared.Kind.{Kind}
 use Rattle.kinds.specs.declared.Sort.{Sort}
 use Rattle.store.specs.declared.place.TableAt.{TableAt}
 use Rattle.store.specs.declared.place.Slot.{Slot}
 use Rattle.store.specs.Meaning.{Meaning, picked, tables_fit, tables_stand, element_fits, slots_fit, slot_fits}
-use Rattle.std.specs.Option.{option_map}
-use Rattle.std.proofs.lemmas.Option.{slice_get-get_or}
 
--- One turn: it is decided here where the test fails, and else by what is left.
-pub tables_turn : (m : Meaning) (k : Kind) (ps : List TableAt) (i : ℕ) (d : TableAt) (b : Bool) → i < length ps → b ≡ is_some (m.table k (get_or ps i d)) → tables_fit m k (drop i ps) ≡ tables_fit m k ps → (b && tables_fit m k (drop (i + 1) ps)) ≡ tables_fit m k ps
-tables_turn m k ps i d b h is inv = ap (λ c. c && tables_fit m k (drop (i + 1) ps)) is ∙ (sym (ap (tables_fit m k) (drop_more ps i d h)) ∙ inv)
+-- A table of the kind stands at each place.
+pub tables_all : (m : Meaning) (k : Kind) (ps : List TableAt) → list_all (λ p. is_some (m.table k p)) ps ≡ tables_fit m k ps
+tables_all m k [] = refl
+tables_all m k (p ∷ ps) = ap (λ b. is_some (m.table k p) && b) (tables_all m k ps)
 
-pub tables_all : (m : Meaning) (k : Kind) (ps : List TableAt) (i : ℕ) → length ps ≤ i → tables_fit m k (drop i ps) ≡ tables_fit m k ps → true ≡ tables_fit m k ps
-tables_all m k ps i h inv = sym (ap (tables_fit m k) (drop_all i ps h)) ∙ inv
+-- The same, of the elements of a list that stands, each by its index from i on.
+elements_all : (m : Meaning) (k : Kind) (all ps : List TableAt) (i : ℕ) → ((j : ℕ) → slice_get ps j ≡ slice_get all (i + j)) → list_all (λ j. element_fits m k (slice_get all j)) (range_with_len i (length ps)) ≡ tables_fit m k ps
+elements_all m k all [] i e = refl
+elements_all m k all (p ∷ ps) i e =
+    let here : Some p ≡ slice_get all i = e 0 ∙ ap (slice_get all) (omega arith) in
+    ap₂ (λ a b. a && b) (sym (ap (element_fits m k) here)) (elements_all m k all ps (i + 1) (λ j. e (suc j) ∙ ap (slice_get all) (omega arith)))
 
--- What is left to look at in a list that stands decides.
-abbrev pub Left : Meaning → Kind → Option (List TableAt) → ℕ → Type 0
-Left m k o i = (ps : List TableAt) → o ≡ Some ps → tables_fit m k (drop i ps) ≡ tables_fit m k ps
-
--- The same turn over a list that stands.
-module _ (m : Meaning) (k : Kind) where
-  element : (ps : List TableAt) (i : ℕ) (b : Bool) → i < length ps → b ≡ element_fits m k (picked (Some ps) i) → b ≡ is_some (m.table k (get_or ps i (record { 0 = 0 })))
-  element ps i b h is = is ∙ ap (element_fits m k) (slice_get-get_or ps i (record { 0 = 0 }) h)
-
-  pub stands_go : (o : Option (List TableAt)) (n i : ℕ) → Some n ≡ option_map length o → i < n → true ≡ element_fits m k (picked o i) → Left m k o i → Left m k o (i + 1)
-  stands_go o n i e h is inv ps q =
-      let l : n ≡ length ps = (let f = ap (option_map length) q in cc) in
-      tables_turn m k ps i (record { 0 = 0 }) true (omega arith) (element ps i true (omega arith) (is ∙ ap (λ x. element_fits m k (picked x i)) q)) (inv ps q)
-
-  pub stands_stop : (o : Option (List TableAt)) (n i : ℕ) → Some n ≡ option_map length o → i < n → false ≡ element_fits m k (picked o i) → Left m k o i → false ≡ tables_stand m k o
-  stands_stop None n i e h is inv = refl
-  stands_stop (Some ps) n i e h is inv =
-      let l : n ≡ length ps = cc in
-      tables_turn m k ps i (record { 0 = 0 }) false (omega arith) (element ps i false (omega arith) is) (inv ps refl)
-
-  pub stands_all : (o : Option (List TableAt)) (n i : ℕ) → Some n ≡ option_map length o → n ≤ i → Left m k o i → true ≡ tables_stand m k o
-  stands_all None n i e h inv = let z : ◌≡◌ {A = ℕ} 0 1 = cc in absurd (omega arith)
-  stands_all (Some ps) n i e h inv = let l : n ≡ length ps = cc in tables_all m k ps i (omega arith) (inv ps refl)
-
--- One turn over the slots of a table.
-pub slots_turn : (m : Meaning) (before : Slot) (sos : List Sort) (ss : List Slot) (i : ℕ) (so : Sort) (s : Slot) (b whole : Bool) → i < length sos → i < length ss → b ≡ slot_fits m before (get_or sos i so) (get_or ss i s) → slots_fit m before (drop i sos) (drop i ss) ≡ whole → (b && slots_fit m (get_or ss i s) (drop (i + 1) sos) (drop (i + 1) ss)) ≡ whole
-slots_turn m before sos ss i so s b whole h k is inv = ap (λ c. c && slots_fit m (get_or ss i s) (drop (i + 1) sos) (drop (i + 1) ss)) is ∙ (sym (ap₂ (slots_fit m before) (drop_more sos i so h) (drop_more ss i s k)) ∙ inv)
-
-pub slots_all : (m : Meaning) (before : Slot) (sos : List Sort) (ss : List Slot) (i : ℕ) (whole : Bool) → length sos ≤ i → length ss ≤ i → slots_fit m before (drop i sos) (drop i ss) ≡ whole → true ≡ whole
-slots_all m before sos ss i whole h k inv = sym (ap₂ (slots_fit m before) (drop_all i sos h) (drop_all i ss k)) ∙ inv
+pub stands_all : (m : Meaning) (k : Kind) (o : Option (List TableAt)) (n : ℕ) → Some n ≡ option_map length o → list_all (λ i. element_fits m k (picked o i)) (range_with_len 0 n) ≡ tables_stand m k o
+stands_all m k None n e = let z : ◌≡◌ {A = ℕ} 0 1 = cc in absurd (omega arith)
+stands_all m k (Some ps) n e =
+    let q : n ≡ length ps = cc in
+    ap (λ j. list_all (λ i. element_fits m k (slice_get ps i)) (range_with_len 0 j)) q ∙ elements_all m k ps ps 0 (λ j. ap (slice_get ps) (omega arith))
 
 and_false : (b : Bool) → (b && false) ≡ false
 and_false true = refl
@@ -57,3 +36,15 @@ slots_length m before [] [] h = absurd (h refl)
 slots_length m before [] (s ∷ ss) h = refl
 slots_length m before (so ∷ sos) [] h = refl
 slots_length m before (so ∷ sos) (s ∷ ss) h = sym (ap (λ b. slot_fits m before so s && b) (sym (slots_length m s sos ss (λ e. h (ap suc e)))) ∙ and_false (slot_fits m before so s))
+
+-- One turn: it is decided here where the slot does not fit, and else by what is left.
+pub slots_turn : (m : Meaning) (before : Slot) (sos sos' : List Sort) (ss ss' : List Slot) (so : Sort) (s : Slot) (b whole : Bool) → sos ≡ so ∷ sos' → ss ≡ s ∷ ss' → b ≡ slot_fits m before so s → slots_fit m before sos ss ≡ whole → (b && slots_fit m s sos' ss') ≡ whole
+slots_turn m before sos sos' ss ss' so s b whole e f is inv = ap (λ c. c && slots_fit m s sos' ss') is ∙ (sym (ap₂ (slots_fit m before) e f) ∙ inv)
+
+-- No sort and no slot are left.
+pub slots_end : (m : Meaning) (before : Slot) (sos : List Sort) (ss : List Slot) → ((sos ≡ []) ⊎ (ss ≡ [])) → length sos ≡ length ss → true ≡ slots_fit m before sos ss
+slots_end m before [] [] e n = refl
+slots_end m before [] (s ∷ ss) e n = absurd (omega arith)
+slots_end m before (so ∷ sos) [] e n = absurd (omega arith)
+slots_end m before (so ∷ sos) (s ∷ ss) (inl e) n = cc
+slots_end m before (so ∷ sos) (s ∷ ss) (inr e) n = cc

@@ -13,10 +13,10 @@ fn in_range(scalar: Scalar, n: i64) -> bool
     ensures { result ≡ number_fits scalar n }
 {
     match scalar {
-        Scalar::Flag => 0 <= n && n <= 1,
-        Scalar::U8 => 0 <= n && n <= 255,
-        Scalar::I16 => -32768 <= n && n <= 32767,
-        Scalar::I32 => -2147483648 <= n && n <= 2147483647,
+        Scalar::Flag => matches!(n, 0 | 1),
+        Scalar::U8 => u8::try_from(n).is_ok(),
+        Scalar::I16 => i16::try_from(n).is_ok(),
+        Scalar::I32 => i32::try_from(n).is_ok(),
         Scalar::I64 => true,
     }
 }
@@ -24,41 +24,29 @@ fn in_range(scalar: Scalar, n: i64) -> bool
 fn number_fits(sort: Sort, n: i64) -> bool
     ensures { result ≡ takes_number sort n }
 {
-    match sort {
-        Sort::Number(scalar, _) => in_range(scalar, n),
-        _ => false,
-    }
+    matches!(sort, Sort::Number(scalar, _) if in_range(scalar, n))
 }
 
 fn text_fits<S: ReadStore>(store: &S, sort: Sort, at: TextAt) -> bool
     ensures { result ≡ text_fits (S.ReadStore.meaning store.now) sort at }
 {
-    match sort {
-        Sort::Text => store.text_len(at).is_some(),
-        _ => false,
-    }
+    matches!(sort, Sort::Text) && store.text_len(at).is_some()
 }
 
 /// Whether a table of the kind stands at each of the places.
 pub fn tables_fit<S: ReadStore>(store: &S, kind: Kind, tables: &[TableAt]) -> bool
     ensures { result ≡ tables_fit (S.ReadStore.meaning store.now) kind tables.now }
 {
-    for p in tables {
-        if !store.has_table(kind, *p) {
-            return false;
-        }
-    }
-    true
+    tables.iter().all(|at| store.has_table(kind, *at))
 }
 
 // Whether an element of a list of tables is a table of the kind.
 fn element_fits<S: ReadStore>(store: &S, kind: Kind, at: ListAt, i: usize) -> bool
     ensures { result ≡ element_fits (S.ReadStore.meaning store.now) kind (picked ((S.ReadStore.meaning store.now).tables at) i) }
 {
-    match store.table_in(at, i) {
-        Some(p) => store.has_table(kind, p),
-        None => false,
-    }
+    store
+        .table_in(at, i)
+        .is_some_and(|table| store.has_table(kind, table))
 }
 
 // Whether a list of tables of the kind stands.
@@ -68,12 +56,7 @@ fn tables_stand<S: ReadStore>(store: &S, kind: Kind, at: ListAt) -> bool
     let Some(n) = store.tables_len(at) else {
         return false;
     };
-    for i in 0..n {
-        if !element_fits(store, kind, at, i) {
-            return false;
-        }
-    }
-    true
+    (0..n).all(|i| element_fits(store, kind, at, i))
 }
 
 fn list_fits<S: ReadStore>(store: &S, sort: Sort, at: ListAt) -> bool
@@ -100,10 +83,9 @@ fn table_fits<S: ReadStore>(store: &S, before: Slot, sort: Sort, at: TableAt) ->
 {
     match sort {
         Sort::Table(kind) => store.has_table(kind, at),
-        Sort::ByTag(tag) => match tag.kind(tag_of(before)) {
-            Some(kind) => store.has_table(kind, at),
-            None => false,
-        },
+        Sort::ByTag(tag) => tag
+            .kind(tag_of(before))
+            .is_some_and(|kind| store.has_table(kind, at)),
         _ => false,
     }
 }
@@ -125,16 +107,16 @@ fn slot_fits<S: ReadStore>(store: &S, before: Slot, sort: Sort, slot: Slot) -> b
 pub fn slots_fit<S: ReadStore>(store: &S, kind: Kind, slots: &[Slot]) -> bool
     ensures { result ≡ slots_fit (S.ReadStore.meaning store.now) Absent (sorts kind) slots.now }
 {
-    let all = kind.slots();
-    if slots.len() != all.len() {
+    let sorts = kind.slots();
+    if slots.len() != sorts.len() {
         return false;
     }
     let mut before = Slot::Absent;
-    for i in 0..slots.len() {
-        if !slot_fits(store, before, all[i], slots[i]) {
+    for (sort, slot) in sorts.iter().zip(slots) {
+        if !slot_fits(store, before, *sort, *slot) {
             return false;
         }
-        before = slots[i];
+        before = *slot;
     }
     true
 }

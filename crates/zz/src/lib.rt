@@ -1,5 +1,0 @@
-//! x
-#![tactic(auto)]
-
-#[cfg(test)]
-mod a;
