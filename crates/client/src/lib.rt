@@ -17,8 +17,7 @@ fn lay_pair<S: WriteStore>(store: &mut S, key: &[u8], value: &[u8]) -> Result<Ta
 {
     let k = store.put_text(key)?;
     let v = store.put_text(value)?;
-    let at = store.put_table(Kind::KeyValue, &[Slot::Text(k), Slot::Text(v)])?;
-    Ok(at)
+    store.put_table(Kind::KeyValue, &[Slot::Text(k), Slot::Text(v)])
 }
 
 /// Puts a pair of texts as a table, or refuses for want of room and leaves what stood before, and nothing else.
@@ -33,11 +32,9 @@ pub fn put_pair<S: WriteStore>(
     ensures agrees { held (S.WriteStore.state store.new) ≡ S.ReadStore.meaning store.new }
 {
     let mark = store.height();
-    match lay_pair(store, key, value) {
-        Ok(at) => Ok(at),
-        Err(e) => {
-            store.cut(mark);
-            Err(e)
-        }
+    let laid = lay_pair(store, key, value);
+    if laid.is_err() {
+        store.cut(mark);
     }
+    laid
 }

@@ -1,8 +1,8 @@
 -- A row of words that was written, seen again.
-use Rattle.std.proofs.Common.{◌≡◌, ℕ, ◌+◌, ◌*◌, ◌/◌, ◌%◌, ◌<◌, Bool, true, false, cond, ◌&&◌, ltb, ◌≢◌, List, ◌++◌, map, length, get_or, set, Some, None, Option, sym, refl, ap, ◌∙◌, subst, arith, below_more}
+use Rattle.std.proofs.Common.{◌≡◌, ℕ, ◌+◌, ◌*◌, ◌/◌, ◌%◌, ◌<◌, Bool, true, false, cond, ◌&&◌, ltb, List, ◌++◌, map, length, get_or, Some, None, Option, sym, refl, ap, ◌∙◌, subst, arith}
 use Rattle.std.specs.List.{range_with_len}
 use Rattle.std.proofs.lemmas.List.FromFn.{length-map-range_with_len, get_or-map-range_with_len, fill_by_all}
-use Rattle.std.proofs.lemmas.List.{get_or-set_same, get_or-set_other, get_or_append_left, length-append, same_lists}
+use Rattle.std.proofs.lemmas.List.{get_or_append_left, length-append, same_lists}
 use Rattle.std.proofs.lemmas.Bool.Decides.{nat_tests}
 use Rattle.word_layout.specs.Views.{View, standing, seen, element, le_bytes}
 use Rattle.word_layout.proofs.Sights.{whole, seen_some, seen_none}
@@ -37,12 +37,6 @@ module _ {X : Type 0} (v : View X) where
           let front : get_or (xs ++ ys) 0 0 ≡ h = get_or_append_left xs ys 0 0 (omega arith) ∙ sym w.head in
           let st' : standing v (xs ++ ys) ≡ Some h = subst (λ w. cond (v.ok w && ltb (v.size w) (length (xs ++ ys))) (Some w) None ≡ Some h) (sym front) (standing_from (v.ok h) (v.size h) (length (xs ++ ys)) h ok' (omega (arith, length-append xs ys))) in
           seen_some v (xs ++ ys) h st' ∙ (ap Some (same_map (element v (xs ++ ys) h) (element v xs h) (v.count h) (λ i q. ap (v.elem h i) (get_or_append_left xs ys 0 (1 + v.at i) (let b = inside h i q in omega arith)))) ∙ (sym (seen_some v xs h st) ∙ e))
-
-pub below_set : (P : ℕ → ℕ → Type 0) (xs : List ℕ) (at i w : ℕ) → at + i < length xs → ((j : ℕ) → j < i → P j (get_or xs (at + j) 0)) → P i w → (j : ℕ) → j < i + 1 → P j (get_or (set xs (at + i) w) (at + j) 0)
-below_set P xs at i w l h p =
-    below_more _ _
-    (λ k q. let ne : at + k ≢ at + i = omega arith in subst (P k) (sym (get_or-set_other xs (at + i) (at + k) w 0 ne)) (h k q))
-    (subst (P i) (sym (get_or-set_same xs (at + i) w 0 l)) p)
 
 pub text_back : (t : List ℕ) (w i : ℕ) → le_bytes w ≡ map (λ b. get_or t (8 * (i / 8) + b) 0) (range_with_len 0 8) → get_or (le_bytes w) (i % 8) 0 ≡ get_or t i 0
 text_back t w i e =

@@ -1,56 +1,40 @@
--- The loops that lay words, and what they have laid.
-use Rattle.std.proofs.Common.{◌≡◌, ℕ, ◌+◌, ◌-◌, ◌<◌, ◌≤◌, true, List, [], ◌∷◌, ◌++◌, length, get_or, take, drop, set, replicate, sym, refl, ap, ◌∙◌, subst, arith}
-use Rattle.std.proofs.lemmas.List.{length-take-le, length-drop, length-append, take-append-drop, take-take, get_or-drop, get_or-take, get_or-set_same, length-set, take-set-le, length-replicate, drop-drop, drop-set-lt, drop_more, append_assoc, set_at, replicate_more}
+-- A head and the words behind it, as they were laid.
+use Rattle.std.proofs.Common.{◌≡◌, ℕ, ◌+◌, ◌-◌, ◌<◌, ◌≤◌, true, List, ◌++◌, length, get_or, take, drop, set, sym, ap, ◌∙◌, subst, arith}
+use borrow.Rule.Slice.PartMut.{mid_of, put_mid, same_len_mid}
+use Rattle.std.proofs.lemmas.Slice.{take-put_mid, take-put_mid_below, drop-put_mid}
+use Rattle.std.proofs.lemmas.List.{get_or-append_right, length-take-le, length-drop, take-take, get_or-drop, get_or-take, get_or-set_same, length-set, take-set-le, drop-set-lt}
 use Rattle.word_layout.specs.Views.{View}
 use Rattle.word_layout.specs.Words.{Laid, Lays}
-use Rattle.word_layout.proofs.Fills.{seen_from, below_set}
+use Rattle.word_layout.proofs.Fills.{seen_from}
 
--- the loop that zeros
-pub clear_none : (ws : List ℕ) (f : ℕ) → ws ≡ take f ws ++ (replicate (f - f) 0 ++ drop f ws)
-clear_none ws f = let z : f - f ≡ 0 = omega arith in sym (ap (λ k. take f ws ++ (replicate k 0 ++ drop f ws)) z ∙ take-append-drop f ws)
-
-pub clear_more : (ws ws' : List ℕ) (f i : ℕ) → f ≤ i → i < length ws → ws' ≡ take f ws ++ (replicate (i - f) 0 ++ drop i ws) → set ws' i 0 ≡ take f ws ++ (replicate (i + 1 - f) 0 ++ drop (i + 1) ws)
-clear_more ws ws' f i h l e =
-    let zs : List ℕ = replicate (i - f) 0 in
-    let lf : length (take f ws) ≡ f = length-take-le f ws (omega arith) in
-    let lz : length (take f ws ++ zs) ≡ i = omega (arith, length-append (take f ws) zs, length-replicate {A = ℕ} (i - f) 0) in
-    let q : i - f + 1 ≡ i + 1 - f = omega arith in
-    let e' : ws' ≡ (take f ws ++ zs) ++ (get_or ws i 0 ∷ drop (i + 1) ws) = e ∙ (sym (append_assoc (take f ws) zs (drop i ws)) ∙ ap (λ x. (take f ws ++ zs) ++ x) (drop_more ws i 0 l)) in
-    ap (λ x. set x i 0) e' ∙ (set_at (take f ws ++ zs) (get_or ws i 0) (drop (i + 1) ws) 0 i lz ∙ (append_assoc (take f ws) zs (0 ∷ drop (i + 1) ws) ∙ ap (λ x. take f ws ++ x) (sym (append_assoc zs (0 ∷ []) (drop (i + 1) ws)) ∙ ap (λ x. x ++ drop (i + 1) ws) (replicate_more (i - f) 0 ∙ ap (λ k. replicate k 0) q))))
-
--- the loops that lay
-
-module _ (ws : List ℕ) (at : ℕ) (P : ℕ → ℕ → Type 0) where
-  pub laid_none : Laid ws at ws 0 P
-  laid_none = record { long = refl; front = refl; back = refl; each = λ j h. absurd (omega arith) }
-
-  pub laid_more : (ws' : List ℕ) (k w : ℕ) → at + k < length ws → Laid ws at ws' k P → P k w → Laid ws at (set ws' (at + k) w) (k + 1) P
-  laid_more ws' k w h l p =
-      let n = l.long in
-      let q : at + k + 1 ≡ at + (k + 1) = omega arith in
-      record {
-        long = length-set ws' (at + k) w ∙ l.long;
-        front = take-set-le at ws' (at + k) w (omega arith) ∙ l.front;
-        back = drop-set-lt (at + (k + 1)) ws' (at + k) w (omega arith) ∙ (ap (λ i. drop i ws') (sym q) ∙ (sym (drop-drop 1 (at + k) ws') ∙ (ap (drop 1) l.back ∙ (drop-drop 1 (at + k) ws ∙ ap (λ i. drop i ws) q))));
-        each = below_set P ws' at k w (omega arith) l.each p;
-      }
-
--- one more word behind a head
-pub lay_more : (ws : List ℕ) (at h n : ℕ) (P : ℕ → ℕ → Type 0) (ws' : List ℕ) (k w : ℕ) → at + (1 + n) ≤ length ws → k < n → Laid (set ws at h) (at + 1) ws' k P → P k w → Laid (set ws at h) (at + 1) (set ws' (at + 1 + k) w) (k + 1) P
-lay_more ws at h n P ws' k w fits less = laid_more (set ws at h) (at + 1) P ws' k w (omega (arith, length-set ws at h))
+-- the words of a part that was written as P says
+pub laid_part : (P : ℕ → ℕ → Type 0) (ws : List ℕ) (at n k : ℕ) (ys : List ℕ) → k ≡ n → length ys ≡ length (mid_of at k ws) → at + n ≤ length ws → ((j : ℕ) → j < n → P j (get_or ys j 0)) → Laid ws at (put_mid at k ws ys) n P
+laid_part P ws at n k ys e same fits each =
+    let long : length ys ≡ k = same ∙ length-take-le k (drop at ws) (omega (arith, length-drop at ws)) in
+    let front : take (at + n) (put_mid at k ws ys) ≡ take at ws ++ ys = take-put_mid at k ws ys (at + n) (omega arith) (omega arith) in
+    let first : length (take at ws) ≡ at = length-take-le at ws (omega arith) in
+    let word : (j : ℕ) → j < n → get_or (put_mid at k ws ys) (at + j) 0 ≡ get_or ys j 0 = λ j h.
+    let z : at + j - at ≡ j = omega arith in
+    sym (get_or-take (at + n) (put_mid at k ws ys) (at + j) 0 (omega arith)) ∙ (ap (λ x. get_or x (at + j) 0) front ∙ (get_or-append_right (take at ws) ys at (at + j) 0 first (omega arith) ∙ ap (λ i. get_or ys i 0) z)) in
+    record {
+      long = same_len_mid at k ws ys same;
+      front = take-put_mid_below at k ws ys at (omega arith) (omega arith);
+      back = drop-put_mid at k ws ys (at + n) (omega arith) (omega arith) long;
+      each = λ j h. subst (P j) (sym (word j h)) (each j h);
+    }
 
 -- a head and the words behind it are an object
-pub lays_from : {X : Type 0} (v : View X) (l : List X) (h n : ℕ) (d : X) (P : ℕ → ℕ → Type 0) (ws ws' : List ℕ) (at k : ℕ) → at + (1 + n) ≤ length ws → k ≡ n →
-    Laid (set ws at h) (at + 1) ws' k P → v.ok h ≡ true → v.count h ≡ length l → v.size h ≡ n →
+pub lays_from : {X : Type 0} (v : View X) (l : List X) (h n : ℕ) (d : X) (P : ℕ → ℕ → Type 0) (ws ws' : List ℕ) (at : ℕ) → at + (1 + n) ≤ length ws →
+    Laid (set ws at h) (at + 1) ws' n P → v.ok h ≡ true → v.count h ≡ length l → v.size h ≡ n →
     ((i : ℕ) → i < length l → v.at i < n) → ((i w : ℕ) → i < length l → P (v.at i) w → v.elem h i w ≡ get_or l i d) → Lays v l ws at ws' (1 + n)
-lays_from v l h n d P ws ws' at k fits kn laid ok count size inside each =
+lays_from v l h n d P ws ws' at fits laid ok count size inside each =
     let long : length ws' ≡ length ws = laid.long ∙ length-set ws at h in
     let part = drop at (take (at + (1 + n)) ws') in
     let n_take : length (take (at + (1 + n)) ws') ≡ at + (1 + n) = length-take-le (at + (1 + n)) ws' (omega arith) in
     let word : (i : ℕ) → i < 1 + n → get_or part i 0 ≡ get_or ws' (at + i) 0 = λ i q. get_or-drop at (take (at + (1 + n)) ws') i 0 ∙ get_or-take (at + (1 + n)) ws' (at + i) 0 (omega arith) in
     let head : get_or ws' at 0 ≡ h = sym (get_or-take (at + 1) ws' at 0 (omega arith)) ∙ (ap (λ x. get_or x at 0) laid.front ∙ (get_or-take (at + 1) (set ws at h) at 0 (omega arith) ∙ get_or-set_same ws at h 0 (omega arith))) in
     let z : at + 0 ≡ at = omega arith in
-    let b : at + 1 + k ≡ at + (1 + n) = omega arith in
+    let b : at + 1 + n ≡ at + (1 + n) = omega arith in
     record {
       long = long;
       front = sym (take-take at (at + 1) ws' (omega arith)) ∙ (ap (take at) laid.front ∙ (take-take at (at + 1) (set ws at h) (omega arith) ∙ take-set-le at ws at h (omega arith)));

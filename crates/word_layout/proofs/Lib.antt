@@ -5,3 +5,4 @@ pub mod Masks
 pub mod Laying
 pub mod Slots
 pub mod Rows
+pub mod Arrays

@@ -1,7 +1,7 @@
 -- The bits of a mask, and the bytes of a word.
-use Rattle.std.proofs.Common.{◌≡◌, ℕ, zero, suc, ◌+◌, ◌-◌, ◌*◌, ◌/◌, ◌%◌, ◌^◌, ◌<◌, ◌≤◌, List, [], ◌∷◌, length, get_or, drop, sym, ap, ◌∙◌, ap₂, pow-suc, arith, pow_mono}
+use Rattle.std.proofs.Common.{◌≡◌, ℕ, zero, suc, ◌+◌, ◌*◌, ◌/◌, ◌%◌, ◌^◌, ◌<◌, ◌≤◌, List, [], ◌∷◌, length, get_or, Bool, eqb, sym, ap, ◌∙◌, pow-suc, arith, pow_mono}
 use native.Mathlib.Nat.{div-div-eq-div-mul, pow-succ'}
-use Rattle.std.proofs.lemmas.List.{drop_more}
+use mir.Val.{bool_byte}
 use Rattle.store.specs.declared.place.Slot.{Slot}
 use Rattle.store.specs.declared.place.Slot.TheVariants.{Absent, Number, Text, Table, List as Listed}
 use Rattle.word_layout.specs.Views.{le_bytes, there, mask_of}
@@ -68,9 +68,10 @@ mask_bit (s ∷ ss) (suc i) h =
 pub mask_below : (l : List Slot) (n : ℕ) → length l ≤ n → mask_of l < 2 ^ n
 mask_below l n h = let m = mask_small l in let p : 2 ^ length l ≤ 2 ^ n = pow_mono h in omega arith
 
--- the loop goes from the last slot to the first
-pub mask_step : (l : List Slot) (i : ℕ) (d : Slot) (b m : ℕ) → 0 < i → i ≤ length l → b ≡ there (get_or l (i - 1) d) → m ≡ mask_of (drop i l) → b + 2 * m ≡ mask_of (drop (i - 1) l)
-mask_step l i d b m h k e f =
-    let j : i - 1 + 1 ≡ i = omega arith in
-    let t = drop_more l (i - 1) d (omega arith) ∙ ap (λ n. get_or l (i - 1) d ∷ drop n l) j in
-    ap₂ (λ x y. x + 2 * y) e f ∙ sym (ap mask_of t)
+-- the bit of a slot, as the code has it
+pub there_bit : (s : Slot) (b : Bool) → b ≡ eqb (there s) 1 → bool_byte b ≡ there s
+there_bit Absent b e = ap bool_byte e
+there_bit (Number n) b e = ap bool_byte e
+there_bit (Text p) b e = ap bool_byte e
+there_bit (Listed p) b e = ap bool_byte e
+there_bit (Table p) b e = ap bool_byte e

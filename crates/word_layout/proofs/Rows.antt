@@ -1,7 +1,8 @@
 -- A row of words as a store that is written.
-use Rattle.std.proofs.Common.{◌≡◌, ℕ, zero, suc, ◌+◌, ◌-◌, ◌*◌, ◌/◌, ◌%◌, ◌<◌, ◌≤◌, min, Bool, true, false, cond, ◌&&◌, ltb, List, [], ◌∷◌, ◌++◌, map, length, get_or, take, drop, replicate, Some, None, Option, sym, refl, ap, ◌∙◌, subst, ap₂, arith}
+use Rattle.std.proofs.Common.{◌≡◌, ℕ, zero, suc, ◌+◌, ◌-◌, ◌*◌, ◌/◌, ◌%◌, ◌<◌, ◌≤◌, min, Bool, true, false, cond, ◌&&◌, ltb, List, [], ◌∷◌, ◌++◌, map, length, get_or, take, drop, set, replicate, eqb, Some, None, Option, Ok, Err, Result, sym, refl, ap, ◌∙◌, subst, ap₂, arith}
 use Rattle.std.proofs.lemmas.Bool.Decides.{nat_tests}
 use Rattle.std.specs.List.{range_with_len}
+use Rattle.std.specs.Result.{result_map_both}
 use Rattle.std.proofs.lemmas.List.FromFn.{length-map-range_with_len, get_or-map-range_with_len}
 use Rattle.std.proofs.lemmas.List.{length-take-le, length-drop, length-append, take-append-drop, take-take, take_at, drop-append-le, drop_at, length-take, length-replicate, drop-take, drop-drop, append_assoc, replicate-append-replicate, drop_all, append-nil}
 use Rattle.kinds.specs.Slots.{sorts}
@@ -10,14 +11,16 @@ use Rattle.kinds.specs.declared.Sort.TheVariants.{Text}
 use Rattle.store.specs.declared.place.Slot.{Slot}
 use Rattle.store.specs.declared.place.Slot.TheVariants.{Absent}
 use Rattle.store.specs.Meaning.{Grows, Nothing, Typed, Object, Place, the_text, the_tables, the_numbers, the_table, Stands, filled, slot_typed, slots_typed}
-use Rattle.store.specs.State.{Sound, Fresh, Puts, Refuses, Cuts, held, most}
-use Rattle.store.specs.declared.refusal.StoreRefusal.TheVariants.{RoomTooSmall, Misfilled}
+use Rattle.store.specs.State.{Sound, Fresh, Put, Puts, Refuses, Cuts, held, most}
+use Rattle.store.specs.declared.refusal.StoreRefusal.{StoreRefusal}
+use Rattle.store.specs.declared.refusal.StoreRefusal.TheVariants.{Misfilled}
 use Rattle.store.proofs.Typing.{typed_from, typed_length}
-use Rattle.word_layout.specs.Views.{View, seen, standing, element, le_bytes, text_view, tables_view, numbers_view, table_view, bit, raw_of, Placed}
-use Rattle.word_layout.specs.Words.{words_meaning, words_state, words_price, limit, used_words, bytes, Lays, LaysIf, TableLaid, table_head}
+use Rattle.word_layout.specs.Views.{View, seen, standing, element, le_bytes, text_view, list_view, tables_view, numbers_view, table_view, bit}
+use Rattle.word_layout.specs.Words.{words_meaning, words_state, words_price, limit, used_words, bytes, Laid, Lays, LaidBehind, TextWord, SlotWord, TableLaid, table_head}
+use Rattle.word_layout.specs.Lists.{list_size, ListWord}
 use Rattle.word_layout.proofs.Listing.{list_inside, list_small}
 use Rattle.word_layout.proofs.Sights.{whole, seen_none, seen_some}
-use Rattle.word_layout.proofs.Fills.{seen_append}
+use Rattle.word_layout.proofs.Fills.{seen_append, text_back}
 use Rattle.word_layout.proofs.Laying.{lays_from}
 use Rattle.word_layout.proofs.Slots.{element_in, table_ok, table_back}
 
@@ -128,10 +131,6 @@ rows_put v l ws ws' used from n o p u r h e f st =
     let Goal : ℕ → Type 0 = λ k. k + n ≤ limit ws → Lays v l ws k ws' n → ((xs : List ℕ) → seen v (drop k xs) ≡ Some l → Stands (words_meaning xs) o p) → Puts o (words_state ws used) (words_state ws' (k + n)) p in
     subst Goal (sym u) (λ q g z. rows_put_at v l ws ws' used n o p q g e f z) r h st
 
--- Where nothing was laid, the store is as it was.
-pub rows_same : (ws ws' : List ℕ) (used : ℕ) → ws' ≡ ws → words_state ws' used ≡ words_state ws used
-rows_same ws ws' used e = ap (λ x. words_state x used) e
-
 -- zeros, and what lies behind them
 module _ (ws ws' : List ℕ) (f t c : ℕ) (ft : f ≤ t) (tc : t ≤ c) (cl : c ≤ length ws) (e : ws' ≡ take f ws ++ (replicate (t - f) 0 ++ drop t ws)) where
   zeros_front : take f ws' ≡ take f ws
@@ -213,24 +212,39 @@ pub rows_typed : (ws : List ℕ) → Typed (words_meaning ws)
 rows_typed ws k p l e = table_typed k (drop p.0 ws) l (standing (table_view k) (drop p.0 ws)) refl e
 
 -- A table that was laid, with slots that hold what their sorts say, is read as it was laid.
-pub table_lays : (k : Kind) (l : List Slot) (ws ws' : List ℕ) (at : ℕ) → slots_typed (sorts k) l ≡ true → at + (1 + length (sorts k)) ≤ limit ws → TableLaid k l ws at ws' → Lays (table_view k) l ws at ws' (1 + length (sorts k))
+pub table_lays : (k : Kind) (l : List Slot) (ws ws' : List ℕ) (at : ℕ) → slots_typed (sorts k) l ≡ true → at + (1 + length l) ≤ limit ws → TableLaid k l ws at ws' → Lays (table_view k) l ws at ws' (1 + length l)
 table_lays k l ws ws' at t r laid =
     let n = typed_length (sorts k) l t in
-    lays_from (table_view k) l (table_head k l) (length (sorts k)) Absent (λ j w. (w ≡ raw_of (get_or l j Absent)) × Placed (get_or l j Absent)) ws ws' at (length l) (omega arith) n laid
-    (table_ok k l) (sym n) refl (λ i q. omega arith) (λ i w q v. table_back k l i w t q v.0 v.1)
+    lays_from (table_view k) l (table_head k l) (length l) Absent (SlotWord l) ws ws' at (omega arith) laid
+    (table_ok k l) (sym n) (sym n) (λ i q. q) (λ i w q v. table_back k l i w t q v.0 v.1)
+
+-- A text that was laid is read as it was laid.
+pub text_lays : (t : List ℕ) (ws ws' : List ℕ) (at : ℕ) → at + (1 + (length t + 7) / 8) ≤ limit ws → Laid (set ws at (1 + 8 * length t)) (at + 1) ws' ((length t + 7) / 8) (TextWord t) → Lays text_view t ws at ws' (1 + (length t + 7) / 8)
+text_lays t ws ws' at r laid =
+    let h = 1 + 8 * length t in
+    let ok : eqb (h % 8) 1 ≡ true = grind (arith, nat_tests) in
+    let n : h / 8 ≡ length t = omega arith in
+    lays_from text_view t h ((length t + 7) / 8) 0 (TextWord t) ws ws' at (omega arith) laid ok n (ap (λ x. (x + 7) / 8) n) (λ i q. omega arith) (λ i w q e. text_back t w i e)
+
+-- So is a list.
+pub list_lays : {X : Type 0} (of : ℕ → X) (mark : ℕ) (l : List X) (ws ws' : List ℕ) (at : ℕ) → mark < 8 → at + (1 + list_size (length l)) ≤ limit ws → Laid (set ws at (mark + 8 * length l)) (at + 1) ws' (list_size (length l)) (ListWord of l) → Lays (list_view of mark) l ws at ws' (1 + list_size (length l))
+list_lays of mark l ws ws' at small r laid =
+    let h = mark + 8 * length l in
+    let ok : eqb (h % 8) mark ≡ true = grind (arith, nat_tests) in
+    let n : h / 8 ≡ length l = omega arith in
+    lays_from (list_view of mark) l h (list_size (length l)) (of 0) (ListWord of l) ws ws' at (omega arith) laid ok n (ap list_size n) (λ i q. list_inside (length l) i q) (λ i w q e. e i q refl)
 
 -- What a put answers, by what laying answered.
-pub put_some : {X : Type 0} (v : View X) (l : List X) (ws ws' : List ℕ) (used from m n : ℕ) (o : Object) (p : Place o) → from ≡ used_words ws used → LaysIf v l ws from ws' n (Some m) → words_price o ≡ 8 * n →
-    filled (words_meaning (take (used_words ws used) ws)) o ≡ true → ((xs : List ℕ) → seen v (drop from xs) ≡ Some l → Stands (words_meaning xs) o p) → Puts o (words_state ws used) (words_state ws' (from + m)) p
-put_some v l ws ws' used from m n o p u h e f st = subst (λ k. Puts o (words_state ws used) (words_state ws' (from + k)) p) (sym h.0) (rows_put v l ws ws' used from n o p u h.1 h.2 e f st)
-
-pub put_none : (ws ws' : List ℕ) (used from n price : ℕ) (o : Object) → from ≡ used_words ws used → limit ws < from + n → ws' ≡ ws → words_price o ≡ 8 * n → price ≡ words_price o →
-    filled (words_meaning (take (used_words ws used) ws)) o ≡ true → Refuses o (words_state ws used) (words_state ws' used) (RoomTooSmall price)
-put_none ws ws' used from n price o u r s e q f =
-    record {
-      same = rows_same ws ws' used s;
-      why = (subst (λ m. filled m o ≡ true) (sym (rows_shown ws used)) f, q, omega arith);
-    }
+pub put_laid : {X : Type 0} (v : View X) (l : List X) (h n : ℕ) (P : ℕ → ℕ → Type 0) (ws ws' : List ℕ) (used used' : ℕ) (o : Object) (place : ℕ → Place o) (r : Result ℕ StoreRefusal) → LaidBehind h n P ws used ws' used' r → words_price o ≡ 8 * (1 + n) →
+    filled (words_meaning (take (used_words ws used) ws)) o ≡ true → ((at : ℕ) → at + (1 + n) ≤ limit ws → Laid (set ws at h) (at + 1) ws' n P → Lays v l ws at ws' (1 + n)) →
+    ((p : ℕ) (xs : List ℕ) → seen v (drop p xs) ≡ Some l → Stands (words_meaning xs) o (place p)) → Put o (words_state ws used) (words_state ws' used') (result_map_both place (λ e. e) r)
+put_laid v l h n P ws ws' used used' o place (Ok p) a e f lays st = subst (λ u. Puts o (words_state ws used) (words_state ws' u) (place p)) (sym a.1) (rows_put v l ws ws' used p (1 + n) o (place p) a.0 a.2 (lays p a.2 a.3) e f (st p))
+put_laid v l h n P ws ws' used used' o place (Err y) a e f lays st =
+    let room = a.1 in
+    subst (λ x. Refuses o (words_state ws used) (words_state ws' used') x) (sym a.0) (record {
+      same = ap₂ words_state a.2 a.3;
+      why = (subst (λ m. filled m o ≡ true) (sym (rows_shown ws used)) f, sym e, omega arith);
+    })
 
 -- Nothing was laid, since the object is misfilled.
 pub put_misfilled : (ws : List ℕ) (used : ℕ) (o : Object) → filled (words_meaning (take (used_words ws used) ws)) o ≡ false → Refuses o (words_state ws used) (words_state ws used) Misfilled

@@ -1,5 +1,5 @@
 -- What a view sees, by its head.
-use Rattle.std.proofs.Common.{◌≡◌, ℕ, ◌+◌, ◌<◌, ◌≤◌, Bool, true, false, cond, ◌&&◌, ltb, List, map, length, get_or, drop, is_some, Some, None, sym, ap, ◌∙◌, arith}
+use Rattle.std.proofs.Common.{◌≡◌, ℕ, ◌+◌, ◌<◌, ◌≤◌, Bool, true, false, cond, ◌&&◌, ltb, List, map, length, get_or, drop, Some, None, Option, refl, sym, ap, ◌∙◌, arith}
 use Rattle.std.specs.List.{range_with_len}
 use Rattle.std.specs.Option.{option_map}
 use Rattle.std.proofs.lemmas.List.FromFn.{length-map-range_with_len, get_or-map-range_with_len}
@@ -29,17 +29,13 @@ module _ {X : Type 0} (v : View X) (xs : List ℕ) where
   pub seen_none : standing v xs ≡ None → seen v xs ≡ None
   seen_none e = ap (option_map (λ h. map (element v xs h) (range_with_len 0 (v.count h)))) e
 
-  pub len_some : (h : ℕ) → standing v xs ≡ Some h → option_map length (seen v xs) ≡ Some (v.count h)
-  len_some h e = ap (option_map length) (seen_some h e) ∙ ap Some (length-map-range_with_len (element v xs h) 0 (v.count h))
-
-  pub len_none : standing v xs ≡ None → option_map length (seen v xs) ≡ None
-  len_none e = ap (option_map length) (seen_none e)
-
-  pub has_some : (h : ℕ) → standing v xs ≡ Some h → is_some (seen v xs) ≡ true
-  has_some h e = ap is_some (seen_some h e)
-
-  pub has_none : standing v xs ≡ None → is_some (seen v xs) ≡ false
-  has_none e = ap is_some (seen_none e)
+  -- how many elements are seen, by the head
+  pub seen_length : option_map v.count (standing v xs) ≡ option_map length (seen v xs)
+  seen_length = go (standing v xs)
+    where
+      go : (o : Option ℕ) → option_map v.count o ≡ option_map length (option_map (λ h. map (element v xs h) (range_with_len 0 (v.count h))) o)
+      go None = refl
+      go (Some h) = ap Some (sym (length-map-range_with_len (element v xs h) 0 (v.count h)))
 
   pub pick_some : (h i : ℕ) → standing v xs ≡ Some h → i < v.count h → picked (seen v xs) i ≡ Some (element v xs h i)
   pick_some h i e l =
@@ -52,9 +48,6 @@ module _ {X : Type 0} (v : View X) (xs : List ℕ) where
       let f = element v xs h in
       let n : length (map f (range_with_len 0 (v.count h))) ≡ v.count h = length-map-range_with_len f 0 (v.count h) in
       ap (λ o. picked o i) (seen_some h e) ∙ slice_get_past (map f (range_with_len 0 (v.count h))) i (omega arith)
-
-  pub pick_none : (i : ℕ) → standing v xs ≡ None → picked (seen v xs) i ≡ None
-  pick_none i e = ap (λ o. picked o i) (seen_none e)
 
 -- the same, of a place in a row
 module _ {X : Type 0} (v : View X) (ws : List ℕ) (p h : ℕ) where

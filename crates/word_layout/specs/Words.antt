@@ -1,11 +1,14 @@
 -- What a row of words means as a store.
-use Rattle.std.specs.Prelude.{◌≡◌, ℕ, ◌+◌, ◌*◌, ◌/◌, ◌<◌, ◌≤◌, min, List, [], ◌∷◌, ◌++◌, length, take, drop, Some, None, Option, slice_index, slice_index_or, slice_set}
+use Rattle.std.specs.Prelude.{◌≡◌, ℕ, ◌+◌, ◌*◌, ◌/◌, ◌<◌, ◌≤◌, min, List, [], ◌∷◌, ◌++◌, map, length, take, drop, Some, None, Option, Ok, Err, Result, slice_index, slice_index_or, slice_set}
+use Rattle.std.specs.List.{range_with_len}
 use Rattle.kinds.specs.declared.Kind.{Kind}
 use Rattle.kinds.specs.Slots.{sorts}
 use Rattle.store.specs.declared.place.Slot.{Slot}
 use Rattle.store.specs.declared.place.Slot.TheVariants.{Absent}
 use Rattle.store.specs.Meaning.{Meaning, Object, the_text, the_tables, the_numbers, the_table}
 use Rattle.store.specs.State.{State}
+use Rattle.store.specs.declared.refusal.StoreRefusal.{StoreRefusal}
+use Rattle.store.specs.declared.refusal.StoreRefusal.TheVariants.{RoomTooSmall}
 use Rattle.word_layout.specs.Lists.{list_size}
 use Rattle.word_layout.specs.Views.{View, le_bytes, seen, text_view, tables_view, numbers_view, table_view, table_mark, mask_of, raw_of, Placed}
 
@@ -67,10 +70,18 @@ pub record Lays {X : Type 0} (v : View X) (l : List X) (ws : List ℕ) (at : ℕ
   pub back : drop (at + n) ws' ≡ drop (at + n) ws
   pub stands : seen v (drop at (take (at + n) ws')) ≡ Some l
 
--- What laying an object of n words answers: n, where they fit in the words that may be used; else none, and nothing is written.
-abbrev pub LaysIf : {X : Type 0} → View X → List X → List ℕ → ℕ → List ℕ → ℕ → Option ℕ → Type 0
-LaysIf v l ws at ws' n (Some m) = (m ≡ n) × (at + n ≤ limit ws) × Lays v l ws at ws' n
-LaysIf v l ws at ws' n None = (limit ws < at + n) × (ws' ≡ ws)
+-- What laying an object with this head answers, where its n words behind the head are as P says: how many words it takes, where they fit in the words that may be used; else none, and nothing is written.
+abbrev pub LaidIf : ℕ → ℕ → (ℕ → ℕ → Type 0) → List ℕ → ℕ → List ℕ → Option ℕ → Type 0
+LaidIf h n P ws at ws' (Some m) = (m ≡ 1 + n) × (at + (1 + n) ≤ limit ws) × Laid (slice_set ws at h) (at + 1) ws' n P
+LaidIf h n P ws at ws' None = (limit ws < at + (1 + n)) × (ws' ≡ ws)
+
+-- What the k-th word behind a text's head is.
+abbrev pub TextWord : List ℕ → ℕ → ℕ → Type 0
+TextWord t k w = le_bytes w ≡ map (λ j. slice_index t (8 * k + j)) (range_with_len 0 8)
+
+-- What the k-th word behind a table's head is.
+abbrev pub SlotWord : List Slot → ℕ → ℕ → Type 0
+SlotWord l k w = (w ≡ raw_of (slice_index_or l k Absent)) × Placed (slice_index_or l k Absent)
 
 -- The head of a table with these slots.
 abbrev pub table_head : Kind → List Slot → ℕ
@@ -78,9 +89,9 @@ table_head k l = table_mark k + 256 * mask_of l
 
 -- A table's head and the words of its slots were laid at a place, and no other word was written.
 abbrev pub TableLaid : Kind → List Slot → List ℕ → ℕ → List ℕ → Type 0
-TableLaid k l ws at ws' = Laid (slice_set ws at (table_head k l)) (at + 1) ws' (length l) (λ j w. (w ≡ raw_of (slice_index_or l j Absent)) × Placed (slice_index_or l j Absent))
+TableLaid k l ws at ws' = Laid (slice_set ws at (table_head k l)) (at + 1) ws' (length l) (SlotWord l)
 
--- What laying a table answers: how many words it takes; none where these do not fit, or the kind has not so many slots, and nothing is written.
-abbrev pub TableLaidIf : Kind → List Slot → List ℕ → ℕ → List ℕ → Option ℕ → Type 0
-TableLaidIf k l ws at ws' (Some n) = (n ≡ 1 + length (sorts k)) × (length l ≡ length (sorts k)) × (at + n ≤ limit ws) × TableLaid k l ws at ws'
-TableLaidIf k l ws at ws' None = (length l ≡ length (sorts k) → limit ws < at + (1 + length (sorts k))) × (ws' ≡ ws)
+-- What laying an object behind the used words answers: its place, with so many words more used; else its price, which does not fit, and all is as it was.
+abbrev pub LaidBehind : ℕ → ℕ → (ℕ → ℕ → Type 0) → List ℕ → ℕ → List ℕ → ℕ → Result ℕ StoreRefusal → Type 0
+LaidBehind h n P ws used ws' used' (Ok p) = (p ≡ used_words ws used) × (used' ≡ p + (1 + n)) × (p + (1 + n) ≤ limit ws) × Laid (slice_set ws p h) (p + 1) ws' n P
+LaidBehind h n P ws used ws' used' (Err e) = (e ≡ RoomTooSmall (8 * (1 + n))) × (limit ws < used_words ws used + (1 + n)) × (ws' ≡ ws) × (used' ≡ used)

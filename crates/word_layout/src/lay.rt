@@ -1,15 +1,8 @@
 //! Lays objects in a row of words, as far as they fit in the words that a store may use.
-ghost use Rattle.std.specs.Prelude.{◌≡◌, ◌+◌, ◌-◌, ◌/◌, ◌≤◌, ◌++◌, length, take, drop, replicate, nat_le};
-ghost use Rattle.kinds.specs.Slots.{sorts};
-ghost use Rattle.word_layout.specs.Lists.{list_size};
-ghost use Rattle.word_layout.specs.Views.{text_view, list_view};
-ghost use Rattle.word_layout.specs.Words.{Lays, LaysIf, TableLaid, TableLaidIf, limit};
+ghost use Rattle.std.specs.Prelude.{◌≡◌, ℕ, ◌+◌, ◌-◌, ◌<◌, ◌≤◌, ◌++◌, length, take, drop, replicate, nat_le, slice_index};
+ghost use Rattle.word_layout.specs.Words.{LaidIf, limit};
 
-use crate::list::{Element, list_word, list_words};
-use crate::pack::{mask, slot_word, text_word};
-use crate::read::mark_of;
-use kinds::Kind;
-use store::Slot;
+use crate::pack::InWords;
 
 /// A store uses at most so many words.
 pub const MAX_WORDS: usize = 65536;
@@ -35,80 +28,31 @@ pub fn clear(words: &mut [u64], from: usize, to: usize)
     ensures same { to ≤ from → words.new ≡ words.old }
 {
     let end = to.min(words.len());
-    for i in from..end {
-        words[i] = 0;
+    if from < end {
+        words[from..end].fill(0);
     }
 }
 
-// Lays a text's head and words.
-fn lay_text(words: &mut [u64], at: usize, bytes: &[u8])
-    requires { at + (1 + (length bytes.now + 7) / 8) ≤ limit words.old }
-    ensures { Lays text_view bytes.now words.old at words.new (1 + (length bytes.now + 7) / 8) }
+// Writes the words behind an object's head.
+fn write<O: InWords>(words: &mut [u64], object: O)
+    requires all { length words.old ≡ O.behind object }
+    requires few { O.behind object < 65536 }
+    ensures { (j : ℕ) → j < O.behind object → O.is_word object j (slice_index words.new j) }
 {
-    words[at] = 1 + 8 * bytes.len() as u64;
-    for k in 0..(bytes.len() + 7) / 8 {
-        words[at + 1 + k] = text_word(bytes, k);
+    for (k, word) in words.iter_mut().enumerate() {
+        *word = object.word(k);
     }
 }
 
-/// Lays a text at a place, and tells how many words it takes; none, where they do not fit.
-pub fn text(words: &mut [u64], at: usize, bytes: &[u8]) -> Option<usize>
-    ensures { LaysIf text_view bytes.now words.old at words.new (1 + (length bytes.now + 7) / 8) result }
+/// Lays an object at a place, and tells how many words it takes; none, where they do not fit.
+pub fn object<O: InWords>(words: &mut [u64], at: usize, object: O) -> Option<usize>
+    ensures { LaidIf (O.head_word object) (O.behind object) (O.is_word object) words.old at words.new result }
 {
-    let n = 1 + (bytes.len() + 7) / 8;
-    if fits(words, at, n) {
-        lay_text(words, at, bytes);
-        Some(n)
-    } else {
-        None
+    let n = object.size();
+    if n >= MAX_WORDS || !fits(words, at, 1 + n) {
+        return None;
     }
-}
-
-// Lays a list's head and words.
-fn lay_list<E: Element>(words: &mut [u64], at: usize, list: &[E])
-    requires { at + (1 + list_size (length list.now)) ≤ limit words.old }
-    ensures { Lays (list_view E.Element.of E.Element.mark) list.now words.old at words.new (1 + list_size (length list.now)) }
-{
-    words[at] = E::mark() + 8 * list.len() as u64;
-    for k in 0..list_words(list.len()) {
-        words[at + 1 + k] = list_word(list, k);
-    }
-}
-
-/// Lays a list at a place, and tells how many words it takes; none, where they do not fit.
-pub fn list<E: Element>(words: &mut [u64], at: usize, list: &[E]) -> Option<usize>
-    ensures { LaysIf (list_view E.Element.of E.Element.mark) list.now words.old at words.new (1 + list_size (length list.now)) result }
-{
-    let n = list_words(list.len());
-    if n < MAX_WORDS && fits(words, at, 1 + n) {
-        lay_list(words, at, list);
-        Some(1 + n)
-    } else {
-        None
-    }
-}
-
-// Lays a table's head and words.
-fn lay_table(words: &mut [u64], at: usize, kind: Kind, slots: &[Slot])
-    requires count { length slots.now ≡ length (sorts kind) }
-    requires room { at + (1 + length (sorts kind)) ≤ limit words.old }
-    ensures { TableLaid kind slots.now words.old at words.new }
-{
-    words[at] = mark_of(kind) + 256 * mask(slots);
-    for i in 0..slots.len() {
-        words[at + 1 + i] = slot_word(slots[i]);
-    }
-}
-
-/// Lays a table at a place, and tells how many words it takes; none, where they do not fit or the kind has not so many slots.
-pub fn table(words: &mut [u64], at: usize, kind: Kind, slots: &[Slot]) -> Option<usize>
-    ensures { TableLaidIf kind slots.now words.old at words.new result }
-{
-    let n = kind.slots().len();
-    if slots.len() == n && fits(words, at, 1 + n) {
-        lay_table(words, at, kind, slots);
-        Some(1 + n)
-    } else {
-        None
-    }
+    words[at] = object.head();
+    write(&mut words[at + 1..at + 1 + n], object);
+    Some(1 + n)
 }

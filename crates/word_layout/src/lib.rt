@@ -4,4 +4,3 @@
 pub mod lay;
 pub mod list;
 pub mod pack;
-pub mod read;

@@ -18,6 +18,7 @@ pub trait Element: Copy {
         ensures value { result ≡ mark }
         ensures bound { result < 8 };
 
+    // Kept: `From` goes neither from `u32` to `i32` nor back, so the two conversions stand here.
     fn of_bits(bits: u32) -> Self
         ensures { result ≡ of bits };
 
@@ -62,6 +63,7 @@ impl Element for i32 {
 }
 
 /// How many words so many elements take.
+#[tactic(auto, unfolding(crate::specs::Lists::list_size))]
 pub fn list_words(count: usize) -> usize
     ensures { result ≡ list_size count }
 {
@@ -69,14 +71,16 @@ pub fn list_words(count: usize) -> usize
 }
 
 /// In which of these words an element is.
-pub(crate) fn word_of(i: usize) -> usize
+#[tactic(auto, unfolding(crate::specs::Lists::list_word))]
+pub fn word_of(i: usize) -> usize
     ensures { result ≡ list_word i }
 {
     i
 }
 
 /// The bits of an element in its word.
-pub(crate) fn part_of(word: u64, i: usize) -> u32
+#[tactic(auto, unfolding(crate::specs::Lists::list_part))]
+pub fn part_of(word: u64, i: usize) -> u32
     ensures { result ≡ list_part i word }
 {
     (word % 4294967296) as u32
@@ -87,5 +91,5 @@ pub(crate) fn list_word<E: Element>(list: &[E], k: usize) -> u64
     requires { k < list_size (length list.now) }
     ensures { ListWord E.Element.of list.now k result }
 {
-    list[k].bits() as u64
+    u64::from(list[k].bits())
 }

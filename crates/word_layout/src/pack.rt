@@ -1,64 +1,213 @@
-//! The words that an object is laid as.
-ghost use Rattle.std.specs.Prelude.{◌≡◌, ◌+◌, ◌*◌, ◌^◌, ◌<◌, map, length, slice_index};
+//! The words that an object is laid as, a head and the words behind it; and what a word says.
+ghost use Rattle.std.specs.Prelude.{◌≡◌, ℕ, ◌+◌, ◌*◌, ◌/◌, ◌^◌, ◌<◌, map, length, slice_index, cond, ◌==◌};
 ghost use Rattle.std.specs.List.{range_with_len};
-ghost use Rattle.word_layout.specs.Views.{le_bytes, raw_of, there, mask_of, Placed};
+ghost use Rattle.kinds.specs.Slots.{sorts};
+ghost use Rattle.word_layout.specs.Lists.{list_size, ListWord};
+ghost use Rattle.word_layout.specs.Views.{le_bytes, raw_of, there, mask_of, table_mark, Placed, number_of, slot_of, bit};
+ghost use Rattle.store.specs.declared.place.Slot.TheVariants.{Absent};
+ghost use Rattle.word_layout.specs.Words.{TextWord, SlotWord, table_head};
 
-use store::Slot;
+use crate::list::{Element, list_word, list_words};
+use kinds::{Kind, Scalar, Sort};
+use std::array;
+use store::{ListAt, Slot, TableAt, TextAt};
 
+/// An object as it is laid. A store has room for no more than 65536 words.
+pub trait InWords: Copy {
+    ghost behind: { Self → ℕ };
+
+    ghost head_word: { Self → ℕ };
+
+    // Whether this is the object's k-th word behind its head.
+    ghost is_word: { Self → ℕ → ℕ → Type 0 };
+
+    /// How many words come behind the head.
+    fn size(&self) -> usize
+        ensures { result ≡ behind self.now };
+
+    fn head(&self) -> u64
+        requires { behind self.now < 65536 }
+        ensures { result ≡ head_word self.now };
+
+    /// The k-th word behind the head.
+    fn word(&self, k: usize) -> u64
+        requires inside { k < behind self.now }
+        requires few { behind self.now < 65536 }
+        ensures { is_word self.now k result };
+}
+
+/// A text.
+#[derive(Clone, Copy)]
+pub struct Text<'a>(pub &'a [u8]);
+
+/// A list.
+#[derive(Clone, Copy)]
+pub struct List<'a, E>(pub &'a [E]);
+
+/// A table with as many slots as its kind has.
+#[derive(Clone, Copy)]
+pub struct Table<'a> {
+    pub kind: Kind,
+    pub slots: &'a [Slot],
+    ghost whole: { length slots.now ≡ length (sorts kind) },
+}
+
+impl<'a> InWords for Text<'a> {
+    ghost behind = { λ t. (length t.0.now + 7) / 8 };
+
+    ghost head_word = { λ t. 1 + 8 * length t.0.now };
+
+    ghost is_word = { λ t k w. TextWord t.0.now k w };
+
+    fn size(&self) -> usize {
+        self.0.len().div_ceil(8)
+    }
+
+    fn head(&self) -> u64 {
+        1 + 8 * self.0.len() as u64
+    }
+
+    fn word(&self, k: usize) -> u64 {
+        text_word(self.0, k)
+    }
+}
+
+impl<'a, E: Element> InWords for List<'a, E> {
+    ghost behind = { λ l. list_size (length l.0.now) };
+
+    ghost head_word = { λ l. E.Element.mark + 8 * length l.0.now };
+
+    ghost is_word = { λ l k w. ListWord E.Element.of l.0.now k w };
+
+    fn size(&self) -> usize {
+        list_words(self.0.len())
+    }
+
+    fn head(&self) -> u64 {
+        E::mark() + 8 * self.0.len() as u64
+    }
+
+    fn word(&self, k: usize) -> u64 {
+        list_word(self.0, k)
+    }
+}
+
+impl<'a> InWords for Table<'a> {
+    ghost behind = { λ t. length t.slots.now };
+
+    ghost head_word = { λ t. table_head t.kind t.slots.now };
+
+    ghost is_word = { λ t k w. SlotWord t.slots.now k w };
+
+    fn size(&self) -> usize {
+        self.slots.len()
+    }
+
+    fn head(&self) -> u64 {
+        mark_of(self.kind) + 256 * mask(self.slots)
+    }
+
+    fn word(&self, k: usize) -> u64 {
+        slot_word(self.slots[k])
+    }
+}
+
+// The byte at an index, and 0 past the end.
 fn byte_at(bytes: &[u8], i: usize) -> u8
     ensures { result ≡ slice_index bytes.now i }
 {
-    if i < bytes.len() { bytes[i] } else { 0 }
+    bytes.get(i).copied().unwrap_or(0)
 }
 
 // The k-th eight bytes of a text, with zeros past its end.
-pub(crate) fn text_word(bytes: &[u8], k: usize) -> u64
+fn text_word(bytes: &[u8], k: usize) -> u64
     requires { k < 2 ^ 32 }
-    ensures { le_bytes result ≡ map (λ j. slice_index bytes.now (8 * k + j)) (range_with_len 0 8) }
+    ensures { TextWord bytes.now k result }
 {
-    let i = 8 * k;
-    u64::from_le_bytes([
-        byte_at(bytes, i),
-        byte_at(bytes, i + 1),
-        byte_at(bytes, i + 2),
-        byte_at(bytes, i + 3),
-        byte_at(bytes, i + 4),
-        byte_at(bytes, i + 5),
-        byte_at(bytes, i + 6),
-        byte_at(bytes, i + 7),
-    ])
+    u64::from_le_bytes(array::from_fn(|j| byte_at(bytes, 8 * k + j)))
 }
 
 // The word of a slot.
-pub(crate) fn slot_word(slot: Slot) -> u64
+fn slot_word(slot: Slot) -> u64
     ensures { (result ≡ raw_of slot) × Placed slot }
 {
     match slot {
         Slot::Absent => 0,
         Slot::Number(n) => n.cast_unsigned(),
-        Slot::Text(at) => at.0 as u64,
-        Slot::List(at) => at.0 as u64,
-        Slot::Table(at) => at.0 as u64,
+        Slot::Text(at) => u64::from(at.0),
+        Slot::List(at) => u64::from(at.0),
+        Slot::Table(at) => u64::from(at.0),
     }
 }
 
-fn is_there(slot: Slot) -> u64
-    ensures { result ≡ there slot }
+/// The low byte of a table's head.
+pub fn mark_of(kind: Kind) -> u64
+    ensures { result ≡ table_mark kind }
 {
-    match slot {
-        Slot::Absent => 0,
-        _ => 1,
-    }
+    4 + 8 * u64::from(kind.code())
+}
+
+fn is_there(slot: Slot) -> bool
+    ensures { result ≡ (there slot == 1) }
+{
+    !matches!(slot, Slot::Absent)
 }
 
 // A bit for each slot that is there, the lowest for the first.
-pub(crate) fn mask(slots: &[Slot]) -> u64
+fn mask(slots: &[Slot]) -> u64
     requires { length slots.now < 32 }
     ensures { result ≡ mask_of slots.now }
 {
-    let mut m = 0;
-    for i in (0..slots.len()).rev() {
-        m = is_there(slots[i]) + 2 * m;
+    let mut mask = 0;
+    for slot in slots.iter().rev() {
+        mask = u64::from(is_there(*slot)) + 2 * mask;
     }
-    m
+    mask
+}
+
+// Bit i of m.
+fn bit_of(m: u64, i: usize) -> bool
+    requires { i < 64 }
+    ensures { result ≡ bit m i }
+{
+    (m >> i) % 2 == 1
+}
+
+// The number in a slot's word.
+fn number_of(scalar: Scalar, w: u64) -> i64
+    ensures { result ≡ number_of scalar w }
+{
+    match scalar {
+        Scalar::Flag => i64::from(w % 256 != 0),
+        Scalar::U8 => (w % 256) as i64,
+        Scalar::I16 => ((w % 65536) as u16).cast_signed() as i64,
+        Scalar::I32 => ((w % 4294967296) as u32).cast_signed() as i64,
+        Scalar::I64 => w.cast_signed(),
+    }
+}
+
+// What a slot's word holds, by the slot's sort.
+fn slot_of(sort: Sort, w: u64) -> Slot
+    ensures { result ≡ slot_of sort w }
+{
+    let at = (w % 4294967296) as u32;
+    match sort {
+        Sort::Number(scalar, _) => Slot::Number(number_of(scalar, w)),
+        Sort::Text => Slot::Text(TextAt(at)),
+        Sort::Table(_) | Sort::ByTag(_) => Slot::Table(TableAt(at)),
+        Sort::Tables(_) | Sort::Numbers => Slot::List(ListAt(at)),
+        Sort::Longs => Slot::Absent,
+    }
+}
+
+/// The slot at an index of a table, read off its word, where the table's head is `head`.
+pub fn slot_in(head: u64, i: usize, sort: Sort, word: u64) -> Slot
+    requires { i < 56 }
+    ensures { result ≡ cond (bit (head / 256) i) (slot_of sort word) Absent }
+{
+    if bit_of(head / 256, i) {
+        slot_of(sort, word)
+    } else {
+        Slot::Absent
+    }
 }

@@ -1,20 +1,29 @@
 //! A store that is read and written, over the caller's words from the front.
-ghost use Rattle.std.specs.Prelude.{◌≡◌, ◌*◌, take};
+ghost use Rattle.std.specs.Prelude.{◌≡◌, ◌+◌, ◌*◌, take};
 ghost use Rattle.store.specs.State.{Fresh};
-ghost use Rattle.word_layout.specs.Words.{words_meaning, words_state, limit, used_words};
+ghost use Rattle.word_layout.specs.Words.{words_meaning, words_state, limit, used_words, LaidBehind};
 ghost use Rattle.word_layout.proofs.Rows.{rows_sound, rows_typed};
 
+use crate::view::WordView;
 use kinds::Kind;
 use store::filled::{slots_fit, tables_fit};
 use store::{ListAt, ReadStore, Slot, StoreRefusal, TableAt, TextAt, WriteStore};
-use word_layout::list::{Element, list_words};
-use word_layout::{lay, read};
+use word_layout::lay;
+use word_layout::pack::{InWords, List, Table, Text};
 
 /// Objects laid one behind the other in the caller's words, at most 65,536 of them. A place is the number of an object's first word.
+// Kept: a buffer and how much of it is used, since a store takes no memory but the words that its caller lends.
 #[derive(Drop)]
 pub struct WordStore<'a> {
     words: &'a mut [u64],
     used: usize,
+}
+
+// What an object costs that has so many words behind its head.
+fn price(behind: usize) -> u128
+    ensures { result ≡ 8 * (1 + behind) }
+{
+    8 * (1 + behind as u128)
 }
 
 impl<'a> WordStore<'a> {
@@ -33,7 +42,7 @@ impl<'a> WordStore<'a> {
     {
         let n = self.len();
         let WordStore { words, used: _ } = self;
-        &words[0..n]
+        &words[..n]
     }
 
     // How many words are used.
@@ -41,6 +50,26 @@ impl<'a> WordStore<'a> {
         ensures { result ≡ used_words self.now.words.now self.now.used }
     {
         self.used.min(lay::usable(self.words))
+    }
+
+    // The used words, to be read.
+    fn view(&self) -> WordView<'_>
+        ensures { result.words.now ≡ take (used_words self.now.words.now self.now.used) self.now.words.now }
+    {
+        WordView {
+            words: &self.words[..self.len()],
+        }
+    }
+
+    // Lays an object behind the used words, and tells its place; where it does not fit, its price.
+    fn put<O: InWords>(&mut self, object: O) -> Result<u32, StoreRefusal>
+        ensures { LaidBehind (O.head_word object) (O.behind object) (O.is_word object) self.old.words.now self.old.used self.new.words.now self.new.used result }
+    {
+        let at = self.len();
+        let refusal = StoreRefusal::RoomTooSmall(price(object.size()));
+        let n = lay::object(self.words, at, object).ok_or(refusal)?;
+        self.used = at + n;
+        Ok(at as u32)
     }
 }
 
@@ -50,35 +79,35 @@ impl<'a> ReadStore for WordStore<'a> {
     ghost typed = { λ s. rows_typed (take (used_words s.words.now s.used) s.words.now) };
 
     fn text_len(&self, at: TextAt) -> Option<usize> {
-        read::text_len(&self.words[0..self.len()], at)
+        self.view().text_len(at)
     }
 
     fn text_byte(&self, at: TextAt, i: usize) -> Option<u8> {
-        read::text_byte(&self.words[0..self.len()], at, i)
+        self.view().text_byte(at, i)
     }
 
     fn tables_len(&self, at: ListAt) -> Option<usize> {
-        read::list_len::<TableAt>(&self.words[0..self.len()], at)
+        self.view().tables_len(at)
     }
 
     fn table_in(&self, at: ListAt, i: usize) -> Option<TableAt> {
-        read::list_element(&self.words[0..self.len()], at, i)
+        self.view().table_in(at, i)
     }
 
     fn numbers_len(&self, at: ListAt) -> Option<usize> {
-        read::list_len::<i32>(&self.words[0..self.len()], at)
+        self.view().numbers_len(at)
     }
 
     fn number_in(&self, at: ListAt, i: usize) -> Option<i32> {
-        read::list_element(&self.words[0..self.len()], at, i)
+        self.view().number_in(at, i)
     }
 
     fn has_table(&self, kind: Kind, at: TableAt) -> bool {
-        read::has_table(&self.words[0..self.len()], kind, at)
+        self.view().has_table(kind, at)
     }
 
     fn slot(&self, kind: Kind, at: TableAt, i: usize) -> Option<Slot> {
-        read::slot(&self.words[0..self.len()], kind, at, i)
+        self.view().slot(kind, at, i)
     }
 }
 
@@ -96,69 +125,41 @@ impl<'a> WriteStore for WordStore<'a> {
     }
 
     fn text_price(&self, bytes: &[u8]) -> u128 {
-        8 * (1 + (bytes.len() as u128 + 7) / 8)
+        price(Text(bytes).size())
     }
 
     fn tables_price(&self, _kind: Kind, tables: &[TableAt]) -> u128 {
-        8 * (1 + list_words(tables.len()) as u128)
+        price(List(tables).size())
     }
 
     fn numbers_price(&self, numbers: &[i32]) -> u128 {
-        8 * (1 + list_words(numbers.len()) as u128)
+        price(List(numbers).size())
     }
 
     fn table_price(&self, kind: Kind, _slots: &[Slot]) -> u128 {
-        8 * (1 + kind.slots().len() as u128)
+        price(kind.slots().len())
     }
 
     fn put_text(&mut self, bytes: &[u8]) -> Result<TextAt, StoreRefusal> {
-        let from = self.len();
-        match lay::text(self.words, from, bytes) {
-            Some(n) => {
-                self.used = from + n;
-                Ok(TextAt(from as u32))
-            }
-            None => Err(StoreRefusal::RoomTooSmall(self.text_price(bytes))),
-        }
+        self.put(Text(bytes)).map(TextAt)
     }
 
     fn put_tables(&mut self, kind: Kind, tables: &[TableAt]) -> Result<ListAt, StoreRefusal> {
         if !tables_fit(self, kind, tables) {
             return Err(StoreRefusal::Misfilled);
         }
-        let from = self.len();
-        match lay::list(self.words, from, tables) {
-            Some(n) => {
-                self.used = from + n;
-                Ok(ListAt(from as u32))
-            }
-            None => Err(StoreRefusal::RoomTooSmall(self.tables_price(kind, tables))),
-        }
+        self.put(List(tables)).map(ListAt)
     }
 
     fn put_numbers(&mut self, numbers: &[i32]) -> Result<ListAt, StoreRefusal> {
-        let from = self.len();
-        match lay::list(self.words, from, numbers) {
-            Some(n) => {
-                self.used = from + n;
-                Ok(ListAt(from as u32))
-            }
-            None => Err(StoreRefusal::RoomTooSmall(self.numbers_price(numbers))),
-        }
+        self.put(List(numbers)).map(ListAt)
     }
 
     fn put_table(&mut self, kind: Kind, slots: &[Slot]) -> Result<TableAt, StoreRefusal> {
         if !slots_fit(self, kind, slots) {
             return Err(StoreRefusal::Misfilled);
         }
-        let from = self.len();
-        match lay::table(self.words, from, kind, slots) {
-            Some(n) => {
-                self.used = from + n;
-                Ok(TableAt(from as u32))
-            }
-            None => Err(StoreRefusal::RoomTooSmall(self.table_price(kind, slots))),
-        }
+        self.put(Table { kind, slots }).map(TableAt)
     }
 
     fn cut(&mut self, height: usize) {

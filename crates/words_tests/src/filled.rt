@@ -3,12 +3,12 @@ use kinds::Kind;
 use store::{ListAt, ReadStore, Slot, StoreRefusal, TableAt, TextAt, WriteStore};
 use words::WordStore;
 
-// The refusal number of a table in a store with no room left for it, 0 where it was put.
-fn told(store: &mut WordStore, kind: Kind, slots: &[Slot]) -> u32 {
-    match store.put_table(kind, slots) {
-        Ok(_) => 0,
-        Err(e) => e.number(),
-    }
+// Puts a table; where it is refused, the refusal's number is the error.
+fn told(store: &mut WordStore, kind: Kind, slots: &[Slot]) -> Result<(), u32> {
+    store
+        .put_table(kind, slots)
+        .map(|_| ())
+        .map_err(StoreRefusal::number)
 }
 
 #[test]
@@ -17,11 +17,11 @@ fn a_slot_filled_otherwise_is_misfilled_before_room_is_looked_at(rt: HostRuntime
     let mut store = WordStore::new(&mut words);
     assert_eq!(rt;
         told(&mut store, Kind::Int, &[Slot::Number(32), Slot::Number(1)]),
-        21
+        Err(21)
     );
     assert_eq!(rt;
         told(&mut store, Kind::Int, &[Slot::Number(32), Slot::Number(2)]),
-        22
+        Err(22)
     );
     assert_eq!(rt;
         told(
@@ -29,7 +29,7 @@ fn a_slot_filled_otherwise_is_misfilled_before_room_is_looked_at(rt: HostRuntime
             Kind::Int,
             &[Slot::Number(2147483648), Slot::Absent]
         ),
-        22
+        Err(22)
     );
     assert_eq!(rt;
         told(
@@ -37,13 +37,22 @@ fn a_slot_filled_otherwise_is_misfilled_before_room_is_looked_at(rt: HostRuntime
             Kind::Int,
             &[Slot::Number(-2147483648), Slot::Absent]
         ),
-        21
+        Err(21)
     );
-    assert_eq!(rt; told(&mut store, Kind::Int, &[Slot::Number(32)]), 22);
-    assert_eq!(rt; told(&mut store, Kind::Date, &[Slot::Number(32767)]), 21);
-    assert_eq!(rt; told(&mut store, Kind::Date, &[Slot::Number(32768)]), 22);
-    assert_eq!(rt; told(&mut store, Kind::Date, &[Slot::Text(TextAt(0))]), 22);
-    assert_eq!(rt; told(&mut store, Kind::Null, &[Slot::Absent]), 22);
+    assert_eq!(rt; told(&mut store, Kind::Int, &[Slot::Number(32)]), Err(22));
+    assert_eq!(rt;
+        told(&mut store, Kind::Date, &[Slot::Number(32767)]),
+        Err(21)
+    );
+    assert_eq!(rt;
+        told(&mut store, Kind::Date, &[Slot::Number(32768)]),
+        Err(22)
+    );
+    assert_eq!(rt;
+        told(&mut store, Kind::Date, &[Slot::Text(TextAt(0))]),
+        Err(22)
+    );
+    assert_eq!(rt; told(&mut store, Kind::Null, &[Slot::Absent]), Err(22));
     assert_eq!(rt; store.height(), 0);
 }
 
@@ -55,17 +64,17 @@ fn a_tag_chooses_the_kind_of_the_table_behind_it(rt: HostRuntime) {
     let mut field = [Slot::Absent; 7];
     field[2] = Slot::Number(6);
     field[3] = Slot::Table(TableAt(0));
-    assert_eq!(rt; told(&mut store, Kind::Field, &field), 0);
+    assert_eq!(rt; told(&mut store, Kind::Field, &field), Ok(()));
     field[2] = Slot::Number(5);
-    assert_eq!(rt; told(&mut store, Kind::Field, &field), 22);
+    assert_eq!(rt; told(&mut store, Kind::Field, &field), Err(22));
     field[2] = Slot::Number(27);
-    assert_eq!(rt; told(&mut store, Kind::Field, &field), 22);
+    assert_eq!(rt; told(&mut store, Kind::Field, &field), Err(22));
     field[2] = Slot::Number(256);
-    assert_eq!(rt; told(&mut store, Kind::Field, &field), 22);
+    assert_eq!(rt; told(&mut store, Kind::Field, &field), Err(22));
     field[2] = Slot::Absent;
-    assert_eq!(rt; told(&mut store, Kind::Field, &field), 22);
+    assert_eq!(rt; told(&mut store, Kind::Field, &field), Err(22));
     field[3] = Slot::Absent;
-    assert_eq!(rt; told(&mut store, Kind::Field, &field), 0);
+    assert_eq!(rt; told(&mut store, Kind::Field, &field), Ok(()));
 }
 
 #[test]
@@ -87,13 +96,13 @@ fn a_list_names_tables_of_the_kind_that_its_slot_says(rt: HostRuntime) {
     assert_eq!(rt; store.put_numbers(&[5]), Ok(ListAt(5)));
     let mut schema = [Slot::Absent; 4];
     schema[1] = Slot::List(ListAt(3));
-    assert_eq!(rt; told(&mut store, Kind::Schema, &schema), 22);
+    assert_eq!(rt; told(&mut store, Kind::Schema, &schema), Err(22));
     schema[1] = Slot::List(ListAt(5));
-    assert_eq!(rt; told(&mut store, Kind::Schema, &schema), 22);
+    assert_eq!(rt; told(&mut store, Kind::Schema, &schema), Err(22));
     schema[1] = Slot::Absent;
     schema[3] = Slot::List(ListAt(5));
-    assert_eq!(rt; told(&mut store, Kind::Schema, &schema), 22);
+    assert_eq!(rt; told(&mut store, Kind::Schema, &schema), Err(22));
     schema[3] = Slot::Absent;
     schema[2] = Slot::List(ListAt(3));
-    assert_eq!(rt; told(&mut store, Kind::Schema, &schema), 0);
+    assert_eq!(rt; told(&mut store, Kind::Schema, &schema), Ok(()));
 }

@@ -1,4 +1,4 @@
-use Rattle.std.proofs.Common.{length, arith}
+use Rattle.std.proofs.Common.{◌≡◌, length, ap, ◌∙◌, arith, rules}
 use Rattle.word_layout.proofs.Listing.{list_below, list_holds}
 use Rattle.word_layout.proofs.list.list_word.Goals as goal
 
@@ -9,4 +9,6 @@ pub bounds-list-k : goal.bounds-list-k
 bounds-list-k g c = list_below (length c.args.list.now) c.args.k c.requires
 
 pub returns : goal.returns
-returns g c = list_holds g.E.Element.of c.args.list.now c.args.k c.bits.result c.index-list-k.result c.bits.type_inv c.bits.ensures c.index-list-k.is
+returns g c =
+    let e : c.from.result ≡ c.bits.result = search rules in
+    list_holds g.E.Element.of c.args.list.now c.args.k c.from.result c.index-list-k.result (search rules) (ap g.E.Element.of e ∙ c.bits.ensures) c.index-list-k.is

@@ -1,25 +1,18 @@
-use Rattle.std.proofs.Common.{◌+◌, length, refl}
+use Rattle.std.proofs.Common.{◌≡◌, ◌+◌, ◌*◌, length, sym, refl, subst, arith, rules, to_z, w32}
+use Rattle.std.specs.Result.{result_map_both}
 use Rattle.store.specs.Meaning.{the_numbers}
-use Rattle.word_layout.specs.Lists.{list_size}
+use Rattle.store.specs.State.{Put}
+use Rattle.word_layout.specs.Lists.{list_size, ListWord}
 use Rattle.word_layout.specs.Views.{numbers_view}
-use Rattle.word_layout.proofs.Rows.{put_some, put_none, rows_shown}
+use Rattle.word_layout.specs.Words.{words_state}
+use Rattle.word_layout.proofs.Rows.{put_laid, list_lays}
 use Rattle.words.proofs.word_store.WordStoreWriteStore.put_numbers.Goals as goal
 
-pub returns-in-Some : goal.returns-in-Some
-returns-in-Some c =
+pub returns-clause-puts : goal.returns-clause-puts
+returns-clause-puts c =
     let s = c.args.self.now in
+    let n = c.put.new.self in
     let l = c.args.numbers.now in
-    record {
-      puts = put_some numbers_view l s.words.now c.list.new.words s.used c.len-from.result c.in-Some.n (1 + list_size (length l)) (the_numbers l) (record { 0 = c.len-from.result }) c.len-from.ensures c.in-Some.ensures refl refl (λ xs e. e);
-      agrees = rows_shown c.list.new.words (c.len-from.result + c.in-Some.n);
-    }
-
-pub returns-in-None : goal.returns-in-None
-returns-in-None c =
-    let s = c.args.self.now in
-    let l = c.args.numbers.now in
-    let h = c.in-None.ensures in
-    record {
-      puts = put_none s.words.now c.list.new.words s.used c.len-from.result (1 + list_size (length l)) c.numbers_price.result (the_numbers l) c.len-from.ensures h.0 h.1 refl c.numbers_price.ensures refl;
-      agrees = rows_shown c.list.new.words s.used;
-    }
+    let e : c.map.result ≡ result_map_both (λ p. record { 0 = p }) (λ x. x) c.put.result = search rules in
+    subst (λ r. Put (the_numbers l) (words_state s.words.now s.used) (words_state n.words.now n.used) r) (sym e)
+    (put_laid numbers_view l (3 + 8 * length l) (list_size (length l)) (ListWord (to_z w32) l) s.words.now n.words.now s.used n.used (the_numbers l) (λ p. record { 0 = p }) c.put.result c.put.ensures refl refl (λ at. list_lays (to_z w32) 3 l s.words.now n.words.now at (omega arith)) (λ p xs h. h))

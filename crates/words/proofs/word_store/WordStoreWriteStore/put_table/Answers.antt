@@ -1,44 +1,33 @@
-use Rattle.std.proofs.Common.{◌≡◌, ◌+◌, true, length, take, sym, refl, arith}
+use Rattle.std.proofs.Common.{◌≡◌, ◌+◌, ◌*◌, true, length, take, sym, ap, subst, rules}
+use Rattle.std.specs.Result.{result_map_both}
 use Rattle.kinds.specs.Slots.{sorts}
 use Rattle.store.specs.declared.place.Slot.TheVariants.{Absent}
 use Rattle.store.specs.Meaning.{the_table, slots_typed}
+use Rattle.store.specs.State.{Put}
 use Rattle.store.proofs.Typing.{fits_typed, typed_length}
 use Rattle.word_layout.specs.Views.{table_view}
-use Rattle.word_layout.specs.Words.{words_meaning, used_words}
-use Rattle.word_layout.proofs.Rows.{put_some, put_none, put_misfilled, table_lays, rows_shown}
+use Rattle.word_layout.specs.Words.{words_meaning, words_state, used_words, table_head, SlotWord}
+use Rattle.word_layout.proofs.Rows.{put_laid, put_misfilled, table_lays}
 use Rattle.words.proofs.word_store.WordStoreWriteStore.put_table.Goals as goal
 
-pub returns-then-not-slots_fit : goal.returns-then-not-slots_fit
-returns-then-not-slots_fit c =
-    let s = c.args.self.now in
-    record { puts = put_misfilled s.words.now s.used (the_table c.args.kind c.args.slots.now) (sym c.if-not-slots_fit.ensures); agrees = rows_shown s.words.now s.used }
+pub returns-then-not-slots_fit-clause-puts : goal.returns-then-not-slots_fit-clause-puts
+returns-then-not-slots_fit-clause-puts c = put_misfilled c.args.self.now.words.now c.args.self.now.used (the_table c.args.kind c.args.slots.now) (sym c.if-not-slots_fit.ensures)
 
-pub returns-in-Some : goal.returns-in-Some
-returns-in-Some c =
+pub invariant_of-put : goal.invariant_of-put
+invariant_of-put c =
     let s = c.args.self.now in
     let k = c.args.kind in
     let l = c.args.slots.now in
-    let ws = s.words.now in
-    let ws' = c.table.new.words in
-    let from = c.len-from.result in
-    let f = sym c.if-not-slots_fit.ensures in
-    let t : slots_typed (sorts k) l ≡ true = fits_typed (words_meaning (take (used_words ws s.used) ws)) Absent (sorts k) l f in
-    let h = c.in-Some.ensures in
-    record {
-      puts = put_some (table_view k) l ws ws' s.used from c.in-Some.n (1 + length (sorts k)) (the_table k l) (record { 0 = from }) c.len-from.ensures (h.0, omega arith, table_lays k l ws ws' from t (omega arith) h.3) refl f (λ xs e. e);
-      agrees = rows_shown ws' (from + c.in-Some.n);
-    }
+    record { whole = typed_length (sorts k) l (fits_typed (words_meaning (take (used_words s.words.now s.used) s.words.now)) Absent (sorts k) l (sym c.if-not-slots_fit.ensures)) }
 
-pub returns-in-None : goal.returns-in-None
-returns-in-None c =
+pub returns-clause-puts : goal.returns-clause-puts
+returns-clause-puts c =
     let s = c.args.self.now in
+    let n = c.put.new.self in
     let k = c.args.kind in
     let l = c.args.slots.now in
-    let ws = s.words.now in
     let f = sym c.if-not-slots_fit.ensures in
-    let t = fits_typed (words_meaning (take (used_words ws s.used) ws)) Absent (sorts k) l f in
-    let h = c.in-None.ensures in
-    record {
-      puts = put_none ws c.table.new.words s.used c.len-from.result (1 + length (sorts k)) c.table_price.result (the_table k l) c.len-from.ensures (h.0 (typed_length (sorts k) l t)) h.1 refl c.table_price.ensures f;
-      agrees = rows_shown c.table.new.words s.used;
-    }
+    let t : slots_typed (sorts k) l ≡ true = fits_typed (words_meaning (take (used_words s.words.now s.used) s.words.now)) Absent (sorts k) l f in
+    let e : c.map.result ≡ result_map_both (λ p. record { 0 = p }) (λ x. x) c.put.result = search rules in
+    subst (λ r. Put (the_table k l) (words_state s.words.now s.used) (words_state n.words.now n.used) r) (sym e)
+    (put_laid (table_view k) l (table_head k l) (length l) (SlotWord l) s.words.now n.words.now s.used n.used (the_table k l) (λ p. record { 0 = p }) c.put.result c.put.ensures (ap (λ m. 8 * (1 + m)) (sym (typed_length (sorts k) l t))) f (λ at r. table_lays k l s.words.now n.words.now at t r) (λ p xs h. h))
