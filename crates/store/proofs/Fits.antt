@@ -1,5 +1,5 @@
 -- Whether places and slots are filled, asked of one after another.
-use Rattle.std.proofs.Common.{◌≡◌, ◌⊎◌, inl, inr, ℕ, suc, ◌+◌, ap₂, Bool, true, false, ◌&&◌, List, [], ◌∷◌, length, slice_get, is_some, Some, None, Option, sym, refl, ap, ◌∙◌, arith}
+use Rattle.std.proofs.Common.{◌≡◌, ℕ, suc, ◌+◌, ap₂, Bool, true, false, ◌&&◌, List, [], ◌∷◌, length, slice_get, is_some, Some, None, Option, sym, refl, ap, ◌∙◌, arith}
 use Rattle.std.specs.List.{list_all, range_with_len}
 use Rattle.std.specs.Option.{option_map}
 use Rattle.kinds.specs.declared.Kind.{Kind}
@@ -36,15 +36,3 @@ slots_length m before [] [] h = absurd (h refl)
 slots_length m before [] (s ∷ ss) h = refl
 slots_length m before (so ∷ sos) [] h = refl
 slots_length m before (so ∷ sos) (s ∷ ss) h = sym (ap (λ b. slot_fits m before so s && b) (sym (slots_length m s sos ss (λ e. h (ap suc e)))) ∙ and_false (slot_fits m before so s))
-
--- One turn: it is decided here where the slot does not fit, and else by what is left.
-pub slots_turn : (m : Meaning) (before : Slot) (sos sos' : List Sort) (ss ss' : List Slot) (so : Sort) (s : Slot) (b whole : Bool) → sos ≡ so ∷ sos' → ss ≡ s ∷ ss' → b ≡ slot_fits m before so s → slots_fit m before sos ss ≡ whole → (b && slots_fit m s sos' ss') ≡ whole
-slots_turn m before sos sos' ss ss' so s b whole e f is inv = ap (λ c. c && slots_fit m s sos' ss') is ∙ (sym (ap₂ (slots_fit m before) e f) ∙ inv)
-
--- No sort and no slot are left.
-pub slots_end : (m : Meaning) (before : Slot) (sos : List Sort) (ss : List Slot) → ((sos ≡ []) ⊎ (ss ≡ [])) → length sos ≡ length ss → true ≡ slots_fit m before sos ss
-slots_end m before [] [] e n = refl
-slots_end m before [] (s ∷ ss) e n = absurd (omega arith)
-slots_end m before (so ∷ sos) [] e n = absurd (omega arith)
-slots_end m before (so ∷ sos) (s ∷ ss) (inl e) n = cc
-slots_end m before (so ∷ sos) (s ∷ ss) (inr e) n = cc

@@ -104,6 +104,7 @@ fn slot_fits<S: ReadStore>(store: &S, before: Slot, sort: Sort, slot: Slot) -> b
 }
 
 /// Whether these are the slots of a table of the kind, each filled as its sort says.
+#[tactic(auto, using(crate::proofs::Fits::slots_length))]
 pub fn slots_fit<S: ReadStore>(store: &S, kind: Kind, slots: &[Slot]) -> bool
     ensures { result ≡ slots_fit (S.ReadStore.meaning store.now) Absent (sorts kind) slots.now }
 {

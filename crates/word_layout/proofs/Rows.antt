@@ -235,16 +235,16 @@ list_lays of mark l ws ws' at small r laid =
     lays_from (list_view of mark) l h (list_size (length l)) (of 0) (ListWord of l) ws ws' at (omega arith) laid ok n (ap list_size n) (λ i q. list_inside (length l) i q) (λ i w q e. e i q refl)
 
 -- What a put answers, by what laying answered.
-pub put_laid : {X : Type 0} (v : View X) (l : List X) (h n : ℕ) (P : ℕ → ℕ → Type 0) (ws ws' : List ℕ) (used used' : ℕ) (o : Object) (place : ℕ → Place o) (r : Result ℕ StoreRefusal) → LaidBehind h n P ws used ws' used' r → words_price o ≡ 8 * (1 + n) →
+pub put_laid : {X : Type 0} (v : View X) (l : List X) (h n : ℕ) (P : ℕ → ℕ → Type 0) (ws ws' : List ℕ) (used used' : ℕ) (o : Object) (place : ℕ → Place o) (r : Result ℕ StoreRefusal) (told : Result (Place o) StoreRefusal) → LaidBehind h n P ws used ws' used' r → told ≡ result_map_both place (λ e. e) r → words_price o ≡ 8 * (1 + n) →
     filled (words_meaning (take (used_words ws used) ws)) o ≡ true → ((at : ℕ) → at + (1 + n) ≤ limit ws → Laid (set ws at h) (at + 1) ws' n P → Lays v l ws at ws' (1 + n)) →
-    ((p : ℕ) (xs : List ℕ) → seen v (drop p xs) ≡ Some l → Stands (words_meaning xs) o (place p)) → Put o (words_state ws used) (words_state ws' used') (result_map_both place (λ e. e) r)
-put_laid v l h n P ws ws' used used' o place (Ok p) a e f lays st = subst (λ u. Puts o (words_state ws used) (words_state ws' u) (place p)) (sym a.1) (rows_put v l ws ws' used p (1 + n) o (place p) a.0 a.2 (lays p a.2 a.3) e f (st p))
-put_laid v l h n P ws ws' used used' o place (Err y) a e f lays st =
+    ((p : ℕ) (xs : List ℕ) → seen v (drop p xs) ≡ Some l → Stands (words_meaning xs) o (place p)) → Put o (words_state ws used) (words_state ws' used') told
+put_laid v l h n P ws ws' used used' o place (Ok p) told a is e f lays st = subst (Put o (words_state ws used) (words_state ws' used')) (sym is) (subst (λ u. Puts o (words_state ws used) (words_state ws' u) (place p)) (sym a.1) (rows_put v l ws ws' used p (1 + n) o (place p) a.0 a.2 (lays p a.2 a.3) e f (st p)))
+put_laid v l h n P ws ws' used used' o place (Err y) told a is e f lays st =
     let room = a.1 in
-    subst (λ x. Refuses o (words_state ws used) (words_state ws' used') x) (sym a.0) (record {
+    subst (Put o (words_state ws used) (words_state ws' used')) (sym is) (subst (λ x. Refuses o (words_state ws used) (words_state ws' used') x) (sym a.0) (record {
       same = ap₂ words_state a.2 a.3;
       why = (subst (λ m. filled m o ≡ true) (sym (rows_shown ws used)) f, sym e, omega arith);
-    })
+    }))
 
 -- Nothing was laid, since the object is misfilled.
 pub put_misfilled : (ws : List ℕ) (used : ℕ) (o : Object) → filled (words_meaning (take (used_words ws used) ws)) o ≡ false → Refuses o (words_state ws used) (words_state ws used) Misfilled

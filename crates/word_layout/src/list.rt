@@ -87,6 +87,7 @@ pub fn part_of(word: u64, i: usize) -> u32
 }
 
 /// A word of a list.
+#[tactic(auto, using(crate::proofs::Listing::list_small, crate::proofs::Listing::list_holds))]
 pub(crate) fn list_word<E: Element>(list: &[E], k: usize) -> u64
     requires { k < list_size (length list.now) }
     ensures { ListWord E.Element.of list.now k result }

@@ -83,6 +83,7 @@ impl<'a, E: Element> InWords for List<'a, E> {
         list_words(self.0.len())
     }
 
+    #[tactic(auto, using(crate::proofs::Listing::list_large))]
     fn head(&self) -> u64 {
         E::mark() + 8 * self.0.len() as u64
     }
@@ -103,6 +104,7 @@ impl<'a> InWords for Table<'a> {
         self.slots.len()
     }
 
+    #[tactic(auto, using(crate::proofs::Slots::few, crate::proofs::Masks::mask_below))]
     fn head(&self) -> u64 {
         mark_of(self.kind) + 256 * mask(self.slots)
     }

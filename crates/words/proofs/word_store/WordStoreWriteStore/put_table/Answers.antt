@@ -1,12 +1,10 @@
-use Rattle.std.proofs.Common.{◌≡◌, ◌+◌, ◌*◌, true, length, take, sym, ap, subst, rules}
-use Rattle.std.specs.Result.{result_map_both}
+use Rattle.std.proofs.Common.{◌≡◌, ◌+◌, ◌*◌, true, length, take, sym, ap, rules}
 use Rattle.kinds.specs.Slots.{sorts}
 use Rattle.store.specs.declared.place.Slot.TheVariants.{Absent}
 use Rattle.store.specs.Meaning.{the_table, slots_typed}
-use Rattle.store.specs.State.{Put}
 use Rattle.store.proofs.Typing.{fits_typed, typed_length}
 use Rattle.word_layout.specs.Views.{table_view}
-use Rattle.word_layout.specs.Words.{words_meaning, words_state, used_words, table_head, SlotWord}
+use Rattle.word_layout.specs.Words.{words_meaning, used_words, table_head, SlotWord}
 use Rattle.word_layout.proofs.Rows.{put_laid, put_misfilled, table_lays}
 use Rattle.words.proofs.word_store.WordStoreWriteStore.put_table.Goals as goal
 
@@ -28,6 +26,4 @@ returns-clause-puts c =
     let l = c.args.slots.now in
     let f = sym c.if-not-slots_fit.ensures in
     let t : slots_typed (sorts k) l ≡ true = fits_typed (words_meaning (take (used_words s.words.now s.used) s.words.now)) Absent (sorts k) l f in
-    let e : c.map.result ≡ result_map_both (λ p. record { 0 = p }) (λ x. x) c.put.result = search rules in
-    subst (λ r. Put (the_table k l) (words_state s.words.now s.used) (words_state n.words.now n.used) r) (sym e)
-    (put_laid (table_view k) l (table_head k l) (length l) (SlotWord l) s.words.now n.words.now s.used n.used (the_table k l) (λ p. record { 0 = p }) c.put.result c.put.ensures (ap (λ m. 8 * (1 + m)) (sym (typed_length (sorts k) l t))) f (λ at r. table_lays k l s.words.now n.words.now at t r) (λ p xs h. h))
+    put_laid (table_view k) l (table_head k l) (length l) (SlotWord l) s.words.now n.words.now s.used n.used (the_table k l) (λ p. record { 0 = p }) c.put.result c.map.result c.put.ensures (search rules) (ap (λ m. 8 * (1 + m)) (sym (typed_length (sorts k) l t))) f (λ at r. table_lays k l s.words.now n.words.now at t r) (λ p xs h. h)
