@@ -176,8 +176,7 @@ impl Scalar {
         ensures { result ≡ width self }
     {
         match self {
-            Scalar::Flag => 1,
-            Scalar::U8 => 1,
+            Scalar::Flag | Scalar::U8 => 1,
             Scalar::I16 => 2,
             Scalar::I32 => 4,
             Scalar::I64 => 8,
@@ -204,17 +203,14 @@ impl Kind {
             Kind::DictionaryEncoding => &DICTIONARY_ENCODING,
             Kind::Message => &MESSAGE,
             Kind::Int => &INT_TYPE,
-            Kind::FloatingPoint => &ONE_CODE_0,
+            Kind::FloatingPoint | Kind::Interval => &ONE_CODE_0,
             Kind::Decimal => &DECIMAL,
-            Kind::Date => &ONE_CODE_1,
+            Kind::Date | Kind::Duration => &ONE_CODE_1,
             Kind::Time => &TIME,
             Kind::Timestamp => &TIMESTAMP,
-            Kind::Interval => &ONE_CODE_0,
             Kind::Union => &UNION,
-            Kind::FixedSizeBinary => &ONE_INT,
-            Kind::FixedSizeList => &ONE_INT,
+            Kind::FixedSizeBinary | Kind::FixedSizeList => &ONE_INT,
             Kind::Map => &ONE_FLAG,
-            Kind::Duration => &ONE_CODE_1,
             _ => &NONE,
         }
     }

@@ -18,8 +18,7 @@ pub fn usable(words: &[u64]) -> usize
 fn fits(words: &[u64], at: usize, n: usize) -> bool
     ensures { result ≡ nat_le (at + n) (limit words.now) }
 {
-    let all = usable(words);
-    at <= all && n <= all - at
+    usable(words).checked_sub(at).is_some_and(|left| n <= left)
 }
 
 /// Zeros from one place to another, as far as there are words.
