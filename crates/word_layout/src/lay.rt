@@ -34,8 +34,7 @@ pub fn clear(words: &mut [u64], from: usize, to: usize)
 
 // Writes the words behind an object's head.
 fn write<O: InWords>(words: &mut [u64], object: O)
-    requires all { length words.old ≡ O.behind object }
-    requires few { O.behind object < 65536 }
+    requires { length words.old ≡ O.behind object }
     ensures { (j : ℕ) → j < O.behind object → O.is_word object j (slice_index words.new j) }
 {
     for (k, word) in words.iter_mut().enumerate() {

@@ -1,9 +1,8 @@
 //! The words that an object is laid as, a head and the words behind it; and what a word says.
-ghost use Rattle.std.specs.Prelude.{◌≡◌, ℕ, ◌+◌, ◌*◌, ◌/◌, ◌^◌, ◌<◌, map, length, slice_index, cond, ◌==◌};
-ghost use Rattle.std.specs.List.{range_with_len};
+ghost use Rattle.std.specs.Prelude.{◌≡◌, ℕ, ◌+◌, ◌*◌, ◌/◌, ◌<◌, length, slice_index, cond, ◌==◌};
 ghost use Rattle.kinds.specs.Slots.{sorts};
 ghost use Rattle.word_layout.specs.Lists.{list_size, ListWord};
-ghost use Rattle.word_layout.specs.Views.{le_bytes, raw_of, there, mask_of, table_mark, Placed, number_of, slot_of, bit};
+ghost use Rattle.word_layout.specs.Views.{raw_of, there, mask_of, table_mark, Placed, number_of, slot_of, bit};
 ghost use Rattle.store.specs.declared.place.Slot.TheVariants.{Absent};
 ghost use Rattle.word_layout.specs.Words.{TextWord, SlotWord, table_head};
 
@@ -12,7 +11,7 @@ use kinds::{Kind, Scalar, Sort};
 use std::array;
 use store::{ListAt, Slot, TableAt, TextAt};
 
-/// An object as it is laid. A store has room for no more than 65536 words.
+/// An object as it is laid: a head, and the words behind it.
 pub trait InWords: Copy {
     ghost behind: { Self → ℕ };
 
@@ -25,14 +24,14 @@ pub trait InWords: Copy {
     fn size(&self) -> usize
         ensures { result ≡ behind self.now };
 
+    /// The head of an object that a store may have room for.
     fn head(&self) -> u64
         requires { behind self.now < 65536 }
         ensures { result ≡ head_word self.now };
 
     /// The k-th word behind the head.
     fn word(&self, k: usize) -> u64
-        requires inside { k < behind self.now }
-        requires few { behind self.now < 65536 }
+        requires { k < behind self.now }
         ensures { is_word self.now k result };
 }
 
@@ -123,7 +122,7 @@ fn byte_at(bytes: &[u8], i: usize) -> u8
 
 // The k-th eight bytes of a text, with zeros past its end.
 fn text_word(bytes: &[u8], k: usize) -> u64
-    requires { k < 2 ^ 32 }
+    requires { k < (length bytes.now + 7) / 8 }
     ensures { TextWord bytes.now k result }
 {
     u64::from_le_bytes(array::from_fn(|j| byte_at(bytes, 8 * k + j)))
