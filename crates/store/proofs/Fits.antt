@@ -1,5 +1,6 @@
 -- Whether places and slots are filled, asked of one after another.
-use Rattle.std.proofs.Common.{◌≡◌, ℕ, suc, ◌+◌, ap₂, Bool, true, false, ◌&&◌, List, [], ◌∷◌, length, slice_get, is_some, Some, None, Option, sym, refl, ap, ◌∙◌, arith}
+use Rattle.std.proofs.Common.{◌≡◌, ℕ, suc, ◌+◌, ap₂, false, ◌&&◌, List, [], ◌∷◌, length, slice_get, is_some, Some, None, Option, sym, refl, ap, ◌∙◌, arith}
+use Rattle.std.proofs.lemmas.Bool.{and_right}
 use Rattle.std.specs.List.{list_all, range_with_len}
 use Rattle.std.specs.Option.{option_map}
 use Rattle.kinds.specs.declared.Kind.{Kind}
@@ -26,13 +27,9 @@ stands_all m k (Some ps) n e =
     let q : n ≡ length ps = cc in
     ap (λ j. list_all (λ i. element_fits m k (slice_get ps i)) (range_with_len 0 j)) q ∙ elements_all m k ps ps 0 (λ j. ap (slice_get ps) (omega arith))
 
-and_false : (b : Bool) → (b && false) ≡ false
-and_false true = refl
-and_false false = refl
-
 -- As many as the kind has, or it is misfilled.
 pub slots_length : (m : Meaning) (before : Slot) (sos : List Sort) (ss : List Slot) → (length ss ≡ length sos → ⊥) → false ≡ slots_fit m before sos ss
 slots_length m before [] [] h = absurd (h refl)
 slots_length m before [] (s ∷ ss) h = refl
 slots_length m before (so ∷ sos) [] h = refl
-slots_length m before (so ∷ sos) (s ∷ ss) h = sym (ap (λ b. slot_fits m before so s && b) (sym (slots_length m s sos ss (λ e. h (ap suc e)))) ∙ and_false (slot_fits m before so s))
+slots_length m before (so ∷ sos) (s ∷ ss) h = sym (and_right (slot_fits m before so s) (slots_fit m s sos ss) (sym (slots_length m s sos ss (λ e. h (ap suc e)))))
