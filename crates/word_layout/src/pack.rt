@@ -1,5 +1,5 @@
 //! The words that an object is laid as, a head and the words behind it; and what a word says.
-ghost use Rattle.std.specs.Prelude.{◌≡◌, ℕ, ◌+◌, ◌*◌, ◌/◌, ◌<◌, length, slice_index, cond, ◌==◌};
+ghost use Rattle.std.specs.Prelude.{◌≡◌, ℕ, ◌+◌, ◌*◌, ◌/◌, ◌^◌, ◌<◌, length, slice_index, cond, ◌==◌};
 ghost use Rattle.kinds.specs.Slots.{sorts};
 ghost use Rattle.word_layout.specs.Lists.{list_size, ListWord};
 ghost use Rattle.word_layout.specs.Views.{raw_of, there, mask_of, table_mark, Placed, number_of, slot_of, bit};
@@ -122,7 +122,7 @@ fn byte_at(bytes: &[u8], i: usize) -> u8
 
 // The k-th eight bytes of a text, with zeros past its end.
 fn text_word(bytes: &[u8], k: usize) -> u64
-    requires { k < (length bytes.now + 7) / 8 }
+    requires { k < 2 ^ 60 }
     ensures { TextWord bytes.now k result }
 {
     u64::from_le_bytes(array::from_fn(|j| byte_at(bytes, 8 * k + j)))
