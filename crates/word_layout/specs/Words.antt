@@ -1,16 +1,16 @@
 -- What a row of words means as a store.
-use Rattle.std.specs.Prelude.{◌≡◌, ℕ, ◌+◌, ◌*◌, ◌/◌, ◌<◌, ◌≤◌, min, List, [], ◌∷◌, ◌++◌, map, length, take, drop, Some, None, Option, Ok, Err, Result, slice_index, slice_index_or, slice_set}
+use Rattle.std.specs.Prelude.{◌≡◌, ℕ, ◌+◌, ◌*◌, ◌/◌, ◌<◌, ◌≤◌, true, min, List, [], ◌∷◌, ◌++◌, map, length, take, drop, Some, None, Option, Ok, Err, Result, slice_index, slice_index_or, slice_set}
 use Rattle.std.specs.List.{range_with_len}
 use Rattle.kinds.specs.declared.Kind.{Kind}
 use Rattle.kinds.specs.Slots.{sorts}
 use Rattle.store.specs.declared.place.Slot.{Slot}
 use Rattle.store.specs.declared.place.Slot.TheVariants.{Absent}
-use Rattle.store.specs.Meaning.{Meaning, Object, the_text, the_tables, the_numbers, the_table}
+use Rattle.store.specs.Meaning.{Meaning, Object, slots_typed, the_text, the_tables, the_numbers, the_table}
 use Rattle.store.specs.State.{State}
 use Rattle.store.specs.declared.refusal.StoreRefusal.{StoreRefusal}
 use Rattle.store.specs.declared.refusal.StoreRefusal.TheVariants.{RoomTooSmall}
-use Rattle.word_layout.specs.Lists.{list_size}
-use Rattle.word_layout.specs.Views.{View, le_bytes, seen, text_view, tables_view, numbers_view, table_view, table_mark, mask_of, raw_of, Placed}
+use Rattle.word_layout.specs.Lists.{list_size, ListWord}
+use Rattle.word_layout.specs.Views.{View, le_bytes, seen, text_view, list_view, tables_view, numbers_view, table_view, table_mark, mask_of, raw_of, Placed}
 
 -- An object stands at a place where its head and all the words behind it are in the row.
 abbrev pub words_meaning : List ℕ → Meaning
@@ -90,6 +90,18 @@ table_head k l = table_mark k + 256 * mask_of l
 -- A table's head and the words of its slots were laid at a place, and no other word was written.
 abbrev pub TableLaid : Kind → List Slot → List ℕ → ℕ → List ℕ → Type 0
 TableLaid k l ws at ws' = Laid (slice_set ws at (table_head k l)) (at + 1) ws' (length l) (SlotWord l)
+
+-- Where a text was laid it stands, and no other word was written.
+abbrev pub TextsStand : Type 0
+TextsStand = (t : List ℕ) (ws ws' : List ℕ) (at n : ℕ) → LaidIf (1 + 8 * length t) ((length t + 7) / 8) (TextWord t) ws at ws' (Some n) → Lays text_view t ws at ws' n
+
+-- So does a list, whose elements are told from their bits by `of`.
+abbrev pub ListsStand : {X : Type 0} → (ℕ → X) → ℕ → Type 0
+ListsStand {X} of mark = (l : List X) (ws ws' : List ℕ) (at n : ℕ) → LaidIf (mark + 8 * length l) (list_size (length l)) (ListWord of l) ws at ws' (Some n) → Lays (list_view of mark) l ws at ws' n
+
+-- So does a table whose slots hold what their sorts say.
+abbrev pub TablesStand : Type 0
+TablesStand = (k : Kind) (l : List Slot) (ws ws' : List ℕ) (at n : ℕ) → slots_typed (sorts k) l ≡ true → LaidIf (table_head k l) (length l) (SlotWord l) ws at ws' (Some n) → Lays (table_view k) l ws at ws' n
 
 -- What laying an object behind the used words answers: its place, with so many words more used; else its price, which does not fit, and all is as it was.
 abbrev pub LaidBehind : ℕ → ℕ → (ℕ → ℕ → Type 0) → List ℕ → ℕ → List ℕ → ℕ → Result ℕ StoreRefusal → Type 0

@@ -4,3 +4,4 @@
 pub mod lay;
 pub mod list;
 pub mod pack;
+pub mod standing;
