@@ -1,10 +1,10 @@
 -- The bits of a mask, and the bytes of a word.
-use Rattle.std.proofs.Common.{◌≡◌, ℕ, zero, suc, ◌+◌, ◌*◌, ◌/◌, ◌%◌, ◌^◌, ◌<◌, ◌≤◌, List, [], ◌∷◌, length, get_or, Bool, eqb, sym, ap, ◌∙◌, pow-suc, arith, pow_mono}
-use native.Mathlib.Nat.{div-div-eq-div-mul, pow-succ'}
+use Rattle.std.proofs.Common.{◌≡◌, ℕ, zero, suc, ◌+◌, ◌*◌, ◌/◌, ◌%◌, ◌^◌, ◌<◌, ◌≤◌, List, [], ◌∷◌, length, get_or, Bool, false, eqb, sym, ap, ◌∙◌, pow-suc, arith, pow_mono}
+use native.Mathlib.Nat.{div-div-eq-div-mul, div-eq_of_lt, pow-succ'}
 use mir.Val.{bool_byte}
 use Rattle.store.specs.declared.place.Slot.{Slot}
 use Rattle.store.specs.declared.place.Slot.TheVariants.{Absent, Number, Text, Table, List as Listed}
-use Rattle.word_layout.specs.Views.{le_bytes, there, mask_of}
+use Rattle.word_layout.specs.Views.{le_bytes, bit, there, mask_of}
 
 -- a word of eight bytes, by its lowest and the rest
 rest_of : (a r : ℕ) → a < 256 → (a + 256 * r) / 256 ≡ r
@@ -75,3 +75,10 @@ there_bit (Number n) b e = ap bool_byte e
 there_bit (Text p) b e = ap bool_byte e
 there_bit (Listed p) b e = ap bool_byte e
 there_bit (Table p) b e = ap bool_byte e
+
+-- No bit is set that a number is too small for.
+pub no_bit_past : (m i : ℕ) → m < 2 ^ 56 → 56 ≤ i → bit m i ≡ false
+no_bit_past m i small h =
+    let more = pow_mono h in
+    let none : m / 2 ^ i ≡ 0 = div-eq_of_lt (omega arith) in
+    ap (λ q. eqb (q % 2) 1) none

@@ -38,7 +38,9 @@ fn write<O: InWords>(words: &mut [u64], object: O)
     ensures { (j : ℕ) → j < O.behind object → O.is_word object j (slice_index words.new j) }
 {
     for (k, word) in words.iter_mut().enumerate() {
-        *word = object.word(k);
+        if let Some(w) = object.word(k) {
+            *word = w;
+        }
     }
 }
 
@@ -47,10 +49,11 @@ pub fn object<O: InWords>(words: &mut [u64], at: usize, object: O) -> Option<usi
     ensures { LaidIf (O.head_word object) (O.behind object) (O.is_word object) words.old at words.new result }
 {
     let n = object.size();
+    let head = object.head()?;
     if n >= MAX_WORDS || !fits(words, at, 1 + n) {
         return None;
     }
-    words[at] = object.head();
+    words[at] = head;
     write(&mut words[at + 1..at + 1 + n], object);
     Some(1 + n)
 }

@@ -1,11 +1,12 @@
 //! The words that an object is laid as, a head and the words behind it; and what a word says.
-ghost use Rattle.std.specs.Prelude.{◌≡◌, ℕ, ◌+◌, ◌*◌, ◌/◌, ◌^◌, ◌<◌, length, slice_index, cond, ◌==◌};
+ghost use Rattle.std.specs.Prelude.{◌≡◌, ℕ, ◌+◌, ◌*◌, ◌/◌, ◌^◌, ◌<◌, ◌≤◌, length, slice_index, cond, MatchOption, ◌==◌};
 ghost use Rattle.kinds.specs.Slots.{sorts};
 ghost use Rattle.word_layout.specs.Lists.{list_size, ListWord};
 ghost use Rattle.word_layout.specs.Views.{raw_of, there, mask_of, table_mark, Placed, number_of, slot_of, bit};
 ghost use Rattle.store.specs.declared.place.Slot.TheVariants.{Absent};
 ghost use Rattle.word_layout.specs.Words.{TextWord, SlotWord, table_head};
 
+use crate::lay::MAX_WORDS;
 use crate::list::{Element, list_word, list_words};
 use kinds::{Kind, Scalar, Sort};
 use std::array;
@@ -24,15 +25,13 @@ pub trait InWords: Copy {
     fn size(&self) -> usize
         ensures { result ≡ behind self.now };
 
-    /// The head of an object that a store may have room for.
-    fn head(&self) -> u64
-        requires { behind self.now < 65536 }
-        ensures { result ≡ head_word self.now };
+    /// The head, or none of an object that no store has room for.
+    fn head(&self) -> Option<u64>
+        ensures { MatchOption result (65536 ≤ behind self.now) (λ h. h ≡ head_word self.now) };
 
-    /// The k-th word behind the head.
-    fn word(&self, k: usize) -> u64
-        requires { k < behind self.now }
-        ensures { is_word self.now k result };
+    /// The k-th word behind the head, or none past the last.
+    fn word(&self, k: usize) -> Option<u64>
+        ensures { MatchOption result (behind self.now ≤ k) (is_word self.now k) };
 }
 
 /// A text.
@@ -62,12 +61,20 @@ impl<'a> InWords for Text<'a> {
         self.0.len().div_ceil(8)
     }
 
-    fn head(&self) -> u64 {
-        1 + 8 * self.0.len() as u64
+    fn head(&self) -> Option<u64> {
+        if self.size() < MAX_WORDS {
+            Some(1 + 8 * self.0.len() as u64)
+        } else {
+            None
+        }
     }
 
-    fn word(&self, k: usize) -> u64 {
-        text_word(self.0, k)
+    fn word(&self, k: usize) -> Option<u64> {
+        if k < self.size() {
+            Some(text_word(self.0, k))
+        } else {
+            None
+        }
     }
 }
 
@@ -83,12 +90,20 @@ impl<'a, E: Element> InWords for List<'a, E> {
     }
 
     #[tactic(auto, using(crate::proofs::Listing::list_large))]
-    fn head(&self) -> u64 {
-        E::mark() + 8 * self.0.len() as u64
+    fn head(&self) -> Option<u64> {
+        if self.size() < MAX_WORDS {
+            Some(E::mark() + 8 * self.0.len() as u64)
+        } else {
+            None
+        }
     }
 
-    fn word(&self, k: usize) -> u64 {
-        list_word(self.0, k)
+    fn word(&self, k: usize) -> Option<u64> {
+        if k < self.size() {
+            Some(list_word(self.0, k))
+        } else {
+            None
+        }
     }
 }
 
@@ -104,12 +119,16 @@ impl<'a> InWords for Table<'a> {
     }
 
     #[tactic(auto, using(crate::proofs::Slots::few, crate::proofs::Masks::mask_below))]
-    fn head(&self) -> u64 {
-        mark_of(self.kind) + 256 * mask(self.slots)
+    fn head(&self) -> Option<u64> {
+        Some(mark_of(self.kind) + 256 * mask(self.slots))
     }
 
-    fn word(&self, k: usize) -> u64 {
-        slot_word(self.slots[k])
+    fn word(&self, k: usize) -> Option<u64> {
+        if k < self.slots.len() {
+            Some(slot_word(self.slots[k]))
+        } else {
+            None
+        }
     }
 }
 
@@ -203,9 +222,11 @@ fn slot_of(sort: Sort, w: u64) -> Slot
 
 /// The slot at an index of a table, read off its word, where the table's head is `head`.
 pub fn slot_in(head: u64, i: usize, sort: Sort, word: u64) -> Slot
-    requires { i < 56 }
     ensures { result ≡ cond (bit (head / 256) i) (slot_of sort word) Absent }
 {
+    if i >= 56 {
+        return Slot::Absent;
+    }
     if bit_of(head / 256, i) {
         slot_of(sort, word)
     } else {
