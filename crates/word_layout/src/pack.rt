@@ -1,5 +1,5 @@
 //! The words that an object is laid as, a head and the words behind it; and what a word says.
-ghost use Rattle.std.specs.Prelude.{◌≡◌, ℕ, ◌+◌, ◌*◌, ◌/◌, ◌^◌, ◌<◌, ◌≤◌, length, slice_index, cond, MatchOption, ◌==◌};
+ghost use Rattle.std.specs.Prelude.{◌≡◌, ◌≢◌, ℕ, ◌+◌, ◌*◌, ◌/◌, ◌^◌, ◌<◌, ◌≤◌, length, slice_index, cond, MatchOption, ◌==◌};
 ghost use Rattle.kinds.specs.Slots.{sorts};
 ghost use Rattle.word_layout.specs.Lists.{list_size, ListWord};
 ghost use Rattle.word_layout.specs.Views.{raw_of, there, mask_of, table_mark, Placed, number_of, slot_of, bit};
@@ -45,9 +45,22 @@ pub struct List<'a, E>(pub &'a [E]);
 /// A table with as many slots as its kind has.
 #[derive(Clone, Copy)]
 pub struct Table<'a> {
-    pub kind: Kind,
-    pub slots: &'a [Slot],
+    kind: Kind,
+    slots: &'a [Slot],
     ghost whole: { length slots.now ≡ length (sorts kind) },
+}
+
+impl<'a> Table<'a> {
+    /// A table of a kind with these slots, or none where the kind has more or fewer.
+    pub fn new(kind: Kind, slots: &'a [Slot]) -> Option<Table<'a>>
+        ensures { MatchOption result (length slots.now ≢ length (sorts kind)) (λ t. (t.kind ≡ kind) × (t.slots.now ≡ slots.now)) }
+    {
+        if slots.len() == kind.slots().len() {
+            Some(Table { kind, slots })
+        } else {
+            None
+        }
+    }
 }
 
 impl<'a> InWords for Text<'a> {

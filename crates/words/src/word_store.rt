@@ -159,7 +159,8 @@ impl<'a> WriteStore for WordStore<'a> {
         if !slots_fit(self, kind, slots) {
             return Err(StoreRefusal::Misfilled);
         }
-        self.put(Table { kind, slots }).map(TableAt)
+        // The slots are as many as the kind has, since they fit it.
+        self.put(Table::new(kind, slots).unwrap()).map(TableAt)
     }
 
     fn cut(&mut self, height: usize) {
