@@ -18,7 +18,7 @@ impl<'r> Report<'r> {
         Report { rt, number }
     }
 
-    // What became of the line, with what that is about.
+    // What became of the line, behind the word that it begins with: the command, or that it is a bad line.
     fn tell(self, about: &str, said: impl fmt::Display + Drop) -> anyhow::Result<()> {
         println!(self.rt; "line {}: {about}: {said}", self.number)?;
         Ok(())

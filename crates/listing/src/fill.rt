@@ -180,6 +180,7 @@ fn add_pair(sheet: &mut Sheet, line: &PairLine) -> Result<Step, LineFault>
 /// Fills a sheet from lines. It keeps the path from a top field to the last one, as their places by depth.
 #[derive(Drop)]
 pub struct Filler {
+    // Kept: places and no records, since the sheet is lent anew for each line and may have changed in between.
     path: Vec<usize>,
 }
 

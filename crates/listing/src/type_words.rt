@@ -1,5 +1,6 @@
 //! Types with their parameters, as they are read from a line.
-ghost use Rattle.std.specs.Prelude.{◌≡◌, ℕ, List, ◌++◌, OnOk};
+ghost use Rattle.std.specs.Prelude.{OnOk};
+ghost use Rattle.listing_words.specs.Tokens.{Grown};
 
 use crate::reader::LineReader;
 use listing_words::fault::LineFault;
@@ -48,7 +49,7 @@ pub fn has_parameters(t: DataType) -> bool {
 impl LineReader<'_> {
     // A unit, and a zone where a comma says that one follows.
     fn unit_and_zone(&mut self) -> Result<(TimeUnit, Option<Text>), LineFault>
-        ensures { OnOk result ((more : List ℕ) × (self.new.text.items ≡ self.old.text.items ++ more)) }
+        ensures { OnOk result (Grown self.old.text.items self.new.text.items) }
     {
         let unit = named_parameter(&mut self.cursor)?;
         let zone = if self.cursor.takes(b',') {
@@ -61,7 +62,7 @@ impl LineReader<'_> {
 
     // The same type, with the parameters that the line gives it.
     fn with_parameters(&mut self, plain: DataType) -> Result<DataType, LineFault>
-        ensures { OnOk result ((more : List ℕ) × (self.new.text.items ≡ self.old.text.items ++ more)) }
+        ensures { OnOk result (Grown self.old.text.items self.new.text.items) }
     {
         let cursor = &mut self.cursor;
         Ok(match plain {
@@ -91,7 +92,7 @@ impl LineReader<'_> {
 
     /// A type. The bytes of a zone go behind those that the line's earlier texts gave.
     pub fn data_type(&mut self) -> Result<DataType, LineFault>
-        ensures { OnOk result ((more : List ℕ) × (self.new.text.items ≡ self.old.text.items ++ more)) }
+        ensures { OnOk result (Grown self.old.text.items self.new.text.items) }
     {
         let plain = self.cursor.named().ok_or(LineFault::UnknownType)?;
         if !has_parameters(plain) {

@@ -26,7 +26,7 @@ impl<'s, 'a, T> Said<'s, 'a, T> {
     }
 }
 
-/// A text that leaves the text bytes has nothing to print.
+/// A text that leaves the text bytes is printed as `?`.
 impl fmt::Display for Said<'_, '_, Text> {
     fn fmt<W: fmt::Write>(&self, f: &mut fmt::Formatter<W>) -> fmt::Result {
         match self.sheet.text_of(self.part) {

@@ -1,5 +1,5 @@
 -- What the bytes of a line are, and what a hexadecimal digit stands for.
-use Rattle.std.specs.Prelude.{ℕ, ◌+◌, ◌-◌, Bool, cond, Some, None, Option, ◌==◌, nat_le}
+use Rattle.std.specs.Prelude.{◌≡◌, ℕ, ◌+◌, ◌-◌, Bool, cond, List, ◌++◌, Some, None, Option, ◌==◌, nat_le}
 use Rattle.listing_words.specs.declared.token.Kind.{Kind}
 use Rattle.listing_words.specs.declared.token.Kind.TheVariants.{Space, Word, Mark}
 
@@ -23,3 +23,11 @@ hex_value b =
     cond (between 48 57 b) (Some (b - 48))
     (cond (between 97 102 b) (Some (b - 97 + 10))
     (cond (between 65 70 b) (Some (b - 65 + 10)) None))
+
+-- Reading went past these bytes, and perhaps past others before them: what is left is what is behind them.
+abbrev pub Passes : List ℕ → List ℕ → List ℕ → Type 0
+Passes line bytes left = (before : List ℕ) × (line ≡ before ++ (bytes ++ left))
+
+-- Something was added at the end, or nothing.
+abbrev pub Grown : List ℕ → List ℕ → Type 0
+Grown old new = (more : List ℕ) × (new ≡ old ++ more)

@@ -2,6 +2,7 @@
 ghost use Rattle.std.specs.Prelude.{◌≡◌, ℕ, List, ◌++◌, IfSome, IfOk, if◌then◌else◌};
 ghost use Rattle.listing_words.specs.Names.{unit_name, interval_name, mode_name, index_name, type_name};
 ghost use Rattle.listing_words.specs.Keywords.{keyword_name};
+ghost use Rattle.listing_words.specs.Tokens.{Passes};
 
 use crate::fault::LineFault;
 use crate::token::Cursor;
@@ -31,7 +32,7 @@ pub fn by_name<T: Named>(word: &[u8]) -> Option<T>
 impl Cursor<'_> {
     /// The value of the row that the next word spells.
     pub fn named<T: Named>(&mut self) -> Option<T>
-        ensures { IfSome result (λ x. (spaces : List ℕ) × (self.old.rest.now ≡ spaces ++ (T.Named.spelling x ++ self.new.rest.now))) }
+        ensures { IfSome result (λ x. Passes self.old.rest.now (T.Named.spelling x) self.new.rest.now) }
     {
         by_name(self.word())
     }
@@ -43,7 +44,7 @@ impl Cursor<'_> {
         other: Keyword,
         fault: LineFault,
     ) -> Result<bool, LineFault>
-        ensures { IfOk result (λ b. (spaces : List ℕ) × (self.old.rest.now ≡ spaces ++ (keyword_name (if b then first else other) ++ self.new.rest.now))) }
+        ensures { IfOk result (λ b. Passes self.old.rest.now (keyword_name (if b then first else other)) self.new.rest.now) }
     {
         match self.named::<Keyword>() {
             Some(k) if k == first => Ok(true),

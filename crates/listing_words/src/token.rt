@@ -1,6 +1,6 @@
 //! The words, numbers and quoted texts of a line.
 ghost use Rattle.std.specs.Prelude.{◌≡◌, ℕ, List, ◌<◌, ◌≤◌, [], ◌∷◌, ◌++◌, length, IsTrue, Decides, IfSome, MatchOption, OnOk, ◌≢◌, slice_index};
-ghost use Rattle.listing_words.specs.Tokens.{kind_of, hex_value};
+ghost use Rattle.listing_words.specs.Tokens.{kind_of, hex_value, Passes, Grown};
 
 use crate::fault::LineFault;
 use std::str::{FromStr, from_utf8};
@@ -73,7 +73,7 @@ impl<'a> Cursor<'a> {
 
     /// The next word, or an empty one where no word stands next. Spaces before it are free.
     pub fn word(&mut self) -> &'a [u8]
-        ensures { (spaces : List ℕ) × (self.old.rest.now ≡ spaces ++ (result.now ++ self.new.rest.now)) }
+        ensures { Passes self.old.rest.now result.now self.new.rest.now }
     {
         let _spaces = self.run(Kind::Space);
         self.run(Kind::Word)
@@ -81,7 +81,7 @@ impl<'a> Cursor<'a> {
 
     /// Reads a mark if it stands next. Spaces before it are free.
     pub fn takes(&mut self, mark: u8) -> bool
-        ensures { IsTrue result → (spaces : List ℕ) × (self.old.rest.now ≡ spaces ++ mark ∷ self.new.rest.now) }
+        ensures { IsTrue result → Passes self.old.rest.now (mark ∷ []) self.new.rest.now }
     {
         let _spaces = self.run(Kind::Space);
         match self.rest.split_first() {
@@ -95,7 +95,7 @@ impl<'a> Cursor<'a> {
 
     /// Reads a mark that has to stand next.
     pub fn expect(&mut self, mark: u8, fault: LineFault) -> Result<(), LineFault>
-        ensures { OnOk result ((spaces : List ℕ) × (self.old.rest.now ≡ spaces ++ mark ∷ self.new.rest.now)) }
+        ensures { OnOk result (Passes self.old.rest.now (mark ∷ []) self.new.rest.now) }
     {
         if self.takes(mark) { Ok(()) } else { Err(fault) }
     }
@@ -161,7 +161,7 @@ impl<'a> Cursor<'a> {
 
     /// Adds the bytes of a quoted text to those that the line's earlier texts gave.
     pub fn quoted(&mut self, into: &mut Vec<u8>) -> Result<(), LineFault>
-        ensures { (more : List ℕ) × (into.new.items ≡ into.old.items ++ more) }
+        ensures { Grown into.old.items into.new.items }
     {
         self.expect(b'"', LineFault::TextWanted)?;
         while let Some(b) = self.letter()? {

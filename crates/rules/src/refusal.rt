@@ -22,7 +22,7 @@ pub enum SheetRefusal {
 }
 
 impl SheetRefusal {
-    // Kept: the enum is the error that `?` passes on; the number stands for it outside, and no code asks it instead of the enum.
+    // Kept: the enum is the error that `?` passes on; the number stands for it outside, and no code but tests decides by it.
     /// The number by which the refusal is told.
     pub fn number(self) -> u32
         ensures { result ≡ refusal_number self }

@@ -50,7 +50,7 @@ fn parameters_fit(row: &Siblings, head: FieldRecord) -> bool
 
 // One level of a walk: the text bytes of the sheet, and how many levels are left for a field.
 #[derive(Clone, Copy)]
-pub struct Level<'a> {
+struct Level<'a> {
     bytes: &'a [u8],
     room: u32,
 }

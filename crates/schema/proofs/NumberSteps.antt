@@ -10,9 +10,6 @@ Progress start free₀ now_items now_free rest all =
     (now_items ++ rest ≡ start ++ all) × (length start ≤ length now_items) × (now_free ≡ drop (length now_items - length start) free₀)
 
 module _ (start free₀ all : List ℤ) where
-  pub at_start : (rest : List ℤ) → rest ≡ all → Progress start free₀ start free₀ rest all
-  at_start rest e = let zip : length start - length start ≡ 0 = omega arith in (ap (λ l. start ++ l) e, omega arith, ap (λ n. drop n free₀) (sym zip))
-
   module _ (items free rest : List ℤ) (p : Progress start free₀ items free rest all) where
     sizes : length items + length rest ≡ length start + length all
     sizes = sym (length-append items rest) ∙ ap length p.0 ∙ length-append start all

@@ -23,6 +23,7 @@ pub struct Line<'a> {
 }
 
 // Whether two fields are dictionary-encoded alike, whatever the dictionaries' numbers.
+// Kept: equality of an `Option` of pairs was tried, and the proof did not close.
 fn same_encoding(s: Option<Dictionary>, t: Option<Dictionary>) -> bool
     ensures { Decides result (option_map encoding_value s ≡ option_map encoding_value t) }
 {
@@ -74,6 +75,7 @@ impl Sides<'_> {
     }
 
     /// Whether pairs say the same, one after another.
+    // Kept: `zip` and `all` were tried; the check knows of each call only that it decides, and the proof did not close.
     pub fn same_pairs(&self, ps: &[Pair], qs: &[Pair]) -> bool
         ensures { Decides result (map (pair_value self.now.first.now) ps.now ≡ map (pair_value self.now.second.now) qs.now) }
     {

@@ -36,7 +36,7 @@ fn lay_own(x: &FieldRecord, out: &mut Roll<i64>)
     ensures free { free out.new ≡ drop (length (own_number x.now)) (free out.old) }
 {
     if let Some(d) = x.dictionary {
-        let _ = out.add(d.number);
+        out.add(d.number).unwrap();
     }
 }
 

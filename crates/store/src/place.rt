@@ -15,7 +15,7 @@ pub struct TableAt(pub u32);
 /// What a slot of a table holds. Which of these it may be, its kind says.
 #[derive(Clone, Copy, PartialEq, Eq, Debug)]
 pub enum Slot {
-    // Kept: absent is what the format calls it, and `ReadStore::slot` answers an `Option<Slot>`, where a second `Option` inside would be harder to read.
+    // Kept: FlatBuffers calls such a slot absent, and `ReadStore::slot` answers an `Option<Slot>`, where a second `Option` inside would be harder to read.
     Absent,
     /// A number of the slot's width, or a flag: 0 or 1.
     Number(i64),

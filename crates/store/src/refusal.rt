@@ -13,7 +13,7 @@ pub enum StoreRefusal {
 
 impl StoreRefusal {
     /// The number by which the refusal is told.
-    // Kept: the enum is the error that `?` passes on; this is the number that stands for it outside, and no code asks it instead of the enum.
+    // Kept: the enum is the error that `?` passes on; this is the number that stands for it outside, and no code but tests decides by it.
     pub fn number(self) -> u32
         ensures { result ≡ refusal_number self }
     {

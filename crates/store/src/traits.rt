@@ -47,6 +47,8 @@ pub trait ReadStore {
         ensures { result ≡ picked ((meaning self.now).table kind at) i };
 }
 
+// Kept: each call that leaves another state says `agrees` itself; as a law of the trait it would have to be cited in each
+// client's proof, where a clause is found at the call.
 /// A store that can be written. A price is told before a put; a refused put changes nothing; a cut takes back all that was put above a height.
 pub trait WriteStore: ReadStore {
     ghost state: { Self → State };

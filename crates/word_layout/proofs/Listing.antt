@@ -18,9 +18,6 @@ pub list_large : (n : ℕ) → n ≤ 2 * list_size n
 unfolding list_size
 list_large n = omega arith
 
-pub list_below : (n k : ℕ) → k < list_size n → k < n
-list_below n k h = let s = list_small n in omega arith
-
 -- A word with the bits of an element, and nothing above them, is the element's word.
 pub list_holds : {X : Type 0} (of : ℕ → X) (l : List X) (k b : ℕ) (x : X) → b < 4294967296 → of b ≡ x → x ≡ get_or l k x → ListWord of l k b
 unfolding list_word list_part

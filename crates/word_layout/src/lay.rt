@@ -50,6 +50,7 @@ pub fn object<O: InWords>(words: &mut [u64], at: usize, object: O) -> Option<usi
 {
     let n = object.size();
     let head = object.head()?;
+    // A count below the limit keeps the sum in range.
     if n >= MAX_WORDS || !fits(words, at, 1 + n) {
         return None;
     }

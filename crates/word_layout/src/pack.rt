@@ -237,6 +237,7 @@ fn slot_of(sort: Sort, w: u64) -> Slot
 pub fn slot_in(head: u64, i: usize, sort: Sort, word: u64) -> Slot
     ensures { result ≡ cond (bit (head / 256) i) (slot_of sort word) Absent }
 {
+    // Behind the mark a head has 56 bits, one for each slot that may be there.
     if i >= 56 {
         return Slot::Absent;
     }

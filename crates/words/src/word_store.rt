@@ -12,7 +12,8 @@ use word_layout::lay;
 use word_layout::pack::{InWords, List, Table, Text};
 
 /// Objects laid one behind the other in the caller's words, at most 65,536 of them. A place is the number of an object's first word.
-// Kept: a buffer and how much of it is used, since a store takes no memory but the words that its caller lends.
+// Kept: a buffer and how much of it is used, since a store takes no memory but the words that its caller lends. The members
+// of the traits speak of every value, so they say for any count what is used, and no field does.
 #[derive(Drop)]
 pub struct WordStore<'a> {
     words: &'a mut [u64],
