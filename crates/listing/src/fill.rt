@@ -102,6 +102,7 @@ fn has_room<T: Copy>(roll: &Roll<T>) -> Result<(), LineFault>
 }
 
 // Lays the bytes of a pair and the pair, or nothing.
+// Kept: that a refusal leaves what stands on the sheet is one equality in each contract, and no name for it is shorter.
 // Kept: this and `lay_field` differ in the roll that they fill; a trait that tells a roll's room and fills it is longer than both.
 fn lay_pair(sheet: &mut Sheet, text: &[u8], pair: Pair) -> Result<(), LineFault>
     ensures { MatchResult result (λ _. PairLaid (content sheet.old) text.now pair (content sheet.new)) (λ _. content sheet.new ≡ content sheet.old) }

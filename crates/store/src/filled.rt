@@ -9,7 +9,7 @@ use crate::traits::ReadStore;
 use kinds::{Kind, Scalar, Sort};
 
 // Whether a slot that keeps its number so can hold this one.
-fn in_range(scalar: Scalar, n: i64) -> bool
+fn number_fits(scalar: Scalar, n: i64) -> bool
     ensures { result ≡ number_fits scalar n }
 {
     match scalar {
@@ -21,10 +21,10 @@ fn in_range(scalar: Scalar, n: i64) -> bool
     }
 }
 
-fn number_fits(sort: Sort, n: i64) -> bool
+fn takes_number(sort: Sort, n: i64) -> bool
     ensures { result ≡ takes_number sort n }
 {
-    matches!(sort, Sort::Number(scalar, _) if in_range(scalar, n))
+    matches!(sort, Sort::Number(scalar, _) if number_fits(scalar, n))
 }
 
 fn text_fits<S: ReadStore>(store: &S, sort: Sort, at: TextAt) -> bool
@@ -96,7 +96,7 @@ fn slot_fits<S: ReadStore>(store: &S, before: Slot, sort: Sort, slot: Slot) -> b
 {
     match slot {
         Slot::Absent => true,
-        Slot::Number(n) => number_fits(sort, n),
+        Slot::Number(n) => takes_number(sort, n),
         Slot::Text(at) => text_fits(store, sort, at),
         Slot::List(at) => list_fits(store, sort, at),
         Slot::Table(at) => table_fits(store, before, sort, at),

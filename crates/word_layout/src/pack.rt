@@ -91,6 +91,8 @@ impl<'a> InWords for Text<'a> {
     }
 }
 
+// Kept: a text's and a list's words are told alike, each by a function of its own; a step for both would need that function
+// and its bound as parameters.
 impl<'a, E: Element> InWords for List<'a, E> {
     ghost behind = { λ l. list_size (length l.0.now) };
 
