@@ -1,4 +1,4 @@
--- Proofs that the tests of equality hold exactly where the values are equal.
+-- Proofs that the tests of equality hold exactly where the values are equal. The impl of `PartialEq` cites them as its law.
 use Rattle.std.proofs.Common.{◌≡◌, Bool, true, true≢false, Option, None, Some, Decides, nat_eq, sym, refl, ap, subst}
 use Rattle.std.specs.Ordering.{int_eq}
 use Rattle.std.specs.Option.{option_eq}
