@@ -1,13 +1,13 @@
 //! A sheet printed as a listing.
 ghost use Rattle.std.specs.Prelude.{◌≡◌, take, drop};
 
-use crate::place::{Placed, places};
+use crate::place::{Place, places};
 use crate::quote::Quoted;
 use listing_words::names::Named;
 use sheet::Sheet;
 use std::alloc::{AllocError, Global};
 use std::fmt;
-use types::{DataType, Dictionary, Pair, Text};
+use types::{DataType, Dictionary, FieldRecord, Pair, Text};
 
 /// A part of a sheet as a listing says it, with the sheet that has its texts.
 #[derive(Clone, Copy)]
@@ -44,9 +44,16 @@ impl fmt::Display for Said<'_, '_, Pair> {
     }
 }
 
+// Every number of a field goes through here, so that one width is printed.
+fn show_number<W: fmt::Write>(f: &mut fmt::Formatter<W>, n: i64) -> fmt::Result {
+    fmt::Display::fmt(&n, f)
+}
+
 // A parameter that is spelt by a name.
 fn show_named<W: fmt::Write>(f: &mut fmt::Formatter<W>, name: &str) -> fmt::Result {
-    write!(f, "({name})")
+    f.write_str("(")?;
+    f.write_str(name)?;
+    f.write_str(")")
 }
 
 /// A type with its parameters.
@@ -74,31 +81,47 @@ impl fmt::Display for Said<'_, '_, DataType> {
 }
 
 fn show_dictionary<W: fmt::Write>(f: &mut fmt::Formatter<W>, d: Dictionary) -> fmt::Result {
-    let index = d.index_type.name();
-    let order = if d.ordered { "ordered" } else { "unordered" };
-    let number = d.number;
-    write!(f, " dictionary({index}, {order}, {number})")
+    f.write_str(" dictionary(")?;
+    f.write_str(d.index_type.name())?;
+    f.write_str(if d.ordered {
+        ", ordered, "
+    } else {
+        ", unordered, "
+    })?;
+    show_number(f, d.number)?;
+    f.write_str(")")
 }
 
+/// A record with where it stands.
+#[derive(Clone, Copy)]
+struct Placed<'s> {
+    field: &'s FieldRecord,
+    place: Place,
+}
+
+// Kept: piece by piece, as a dictionary; by one `write!` of several parts a listing of short records took half as long again.
 /// A field's line. The type id is left out where it is 0 and the field is no child of a union.
 impl fmt::Display for Said<'_, '_, Placed<'_>> {
     fn fmt<W: fmt::Write>(&self, f: &mut fmt::Formatter<W>) -> fmt::Result {
         let field = self.part.field;
-        let depth = self.part.depth;
-        let name = self.with(field.name);
-        let data_type = self.with(field.data_type);
-        let presence = if field.nullable {
-            "nullable"
+        let Place { depth, in_union } = self.part.place;
+        f.write_str("field ")?;
+        show_number(f, i64::from(depth))?;
+        f.write_str(" ")?;
+        self.with(field.name).fmt(f)?;
+        f.write_str(" ")?;
+        self.with(field.data_type).fmt(f)?;
+        f.write_str(if field.nullable {
+            " nullable"
         } else {
-            "required"
-        };
-        write!(f, "field {depth} {name} {data_type} {presence}")?;
+            " required"
+        })?;
         if let Some(d) = field.dictionary {
             show_dictionary(f, d)?;
         }
-        let id = field.type_id;
-        if id != 0 || self.part.in_union() {
-            write!(f, " id={id}")?;
+        if field.type_id != 0 || in_union {
+            f.write_str(" id=")?;
+            show_number(f, i64::from(field.type_id))?;
         }
         f.write_str("\n")
     }
@@ -121,17 +144,18 @@ fn cut(pairs: &[Pair], n: u32) -> (&[Pair], &[Pair])
     pairs.split_at(pairs.len().min(n as usize))
 }
 
+// Kept: places beside the sheet's records; with the records in them they would lend these.
 /// A sheet with what printing it needs. A sheet whose counts do not fit is printed too, as far as its counts go.
 #[derive(Drop)]
 pub struct Listing<'s, 'a> {
     sheet: &'s Sheet<'a>,
-    fields: Vec<Placed<'s>>,
+    places: Vec<Place>,
 }
 
 impl<'s, 'a> Listing<'s, 'a> {
     pub fn new(heap: Global, sheet: &'s Sheet<'a>) -> Result<Listing<'s, 'a>, AllocError> {
-        let fields = places(heap, sheet.records.as_slice())?;
-        Ok(Listing { sheet, fields })
+        let places = places(heap, sheet.records.as_slice())?;
+        Ok(Listing { sheet, places })
     }
 }
 
@@ -139,14 +163,19 @@ impl fmt::Display for Listing<'_, '_> {
     fn fmt<W: fmt::Write>(&self, f: &mut fmt::Formatter<W>) -> fmt::Result {
         let sheet = self.sheet;
         let (own, mut rest) = cut(sheet.pairs.as_slice(), sheet.own_pairs);
-        write!(f, "schema\n{}", Said { sheet, part: own })?;
-        for placed in &self.fields {
-            let (mine, others) = cut(rest, placed.field.pairs);
+        f.write_str("schema\n")?;
+        Said { sheet, part: own }.fmt(f)?;
+        for (field, place) in sheet.records.as_slice().iter().zip(&self.places) {
+            let (mine, others) = cut(rest, field.pairs);
             let line = Said {
                 sheet,
-                part: *placed,
+                part: Placed {
+                    field,
+                    place: *place,
+                },
             };
-            write!(f, "{line}{}", line.with(mine))?;
+            line.fmt(f)?;
+            line.with(mine).fmt(f)?;
             rest = others;
         }
         Ok(())
