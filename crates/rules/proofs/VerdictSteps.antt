@@ -8,7 +8,7 @@ use Rattle.rules.specs.declared.refusal.SheetRefusal.TheVariants.{TooLarge, Coun
 use Rattle.rules.specs.Verdict.{Walked, first_broken, within_limits, limit_rules, own_rules, walk_row, walk_field, walk_fields, closed, or_else, verdict}
 
 module _ (c : Content) (e : within_limits c ≡ true) (h : c.own ≤ length c.pairs) where
-  limits_kept : first_broken (limit_rules c) ≡ None
+  pub limits_kept : first_broken (limit_rules c) ≡ None
   limits_kept =
       ap (λ b. cond b (cond (leb c.own (length c.pairs)) None (Some Counts)) (Some TooLarge)) e
       ∙ ap (λ b. cond b None (Some Counts)) (le-leb c.own (length c.pairs) h)

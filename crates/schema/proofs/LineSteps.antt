@@ -1,5 +1,5 @@
 -- What the lines of a sheet say of the schema that it holds.
-use Rattle.std.proofs.Common.{◌≡◌, ℕ, Bool, List, [], ◌∷◌, map, take, drop, ℤ, Decides, sym, refl, ap, ◌∙◌}
+use Rattle.std.proofs.Common.{◌≡◌, ℕ, suc, Bool, List, [], ◌∷◌, map, length, take, drop, ℤ, Decides, sym, refl, ap, ◌∙◌}
 use Rattle.types.specs.declared.Pair.{Pair}
 use Rattle.types.specs.declared.FieldRecord.{FieldRecord}
 use Rattle.sheet.specs.Contents.{Content}
@@ -9,6 +9,11 @@ use Rattle.schema.proofs.MappedRows.{counted_mapped}
 use Rattle.rules.proofs.Holding.{same_forest}
 use Rattle.schema.specs.Lines.{lines, lines_of, own_of}
 use Rattle.schema.specs.Answers.{TellsAlike}
+
+-- There are as many lines as records.
+pub length_lines : (bytes : List ℕ) (ps : List Pair) (xs : List FieldRecord) → length (lines bytes ps xs) ≡ length xs
+length_lines bytes ps [] = refl
+length_lines bytes ps (x ∷ xs) = ap suc (length_lines bytes (drop x.pairs ps) xs)
 
 -- The lines are the fields of the schema in preorder.
 abbrev bare : Numbered × ℕ → Field × ℕ

@@ -50,9 +50,14 @@ fn own_pairs<'a>(sheet: &'a Sheet) -> &'a [Pair]
 
 // Whether lines are the same, one after another.
 // Kept: this and `Sides::same_pairs` go over two rows alike, but each with a way of its own to the next, to compare and to end.
+#[tactic(auto, using(crate::proofs::LineSteps::length_lines))]
 fn same_lines(sides: &Sides, a: Unread, b: Unread) -> bool
     ensures { Decides result (lines sides.now.first.now a.entry.pairs.now a.entry.records.now ≡ lines sides.now.second.now b.entry.pairs.now b.entry.records.now) }
 {
+    // Rows of different lengths are told apart before any text is compared.
+    if a.records.len() != b.records.len() {
+        return false;
+    }
     let (mut left, mut right) = (a, b);
     while let Some((x, behind)) = next_line(left) {
         let Some((y, past)) = next_line(right) else {

@@ -79,6 +79,9 @@ impl Sides<'_> {
     pub fn same_pairs(&self, ps: &[Pair], qs: &[Pair]) -> bool
         ensures { Decides result (map (pair_value self.now.first.now) ps.now ≡ map (pair_value self.now.second.now) qs.now) }
     {
+        if ps.len() != qs.len() {
+            return false;
+        }
         let (mut left, mut right) = (ps, qs);
         while let Some((p, behind)) = left.split_first() {
             let Some((q, past)) = right.split_first() else {
