@@ -67,8 +67,9 @@ impl<'a> WordStore<'a> {
         ensures { LaidBehind (O.head_word object) (O.behind object) (O.is_word object) self.old.words.now self.old.used self.new.words.now self.new.used result }
     {
         let at = self.len();
-        let refusal = StoreRefusal::RoomTooSmall(price(object.size()));
-        let n = lay::object(self.words, at, object).ok_or(refusal)?;
+        let Some(n) = lay::object(self.words, at, object) else {
+            return Err(StoreRefusal::RoomTooSmall(price(object.size())));
+        };
         self.used = at + n;
         Ok(at as u32)
     }
