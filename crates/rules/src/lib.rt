@@ -2,6 +2,7 @@
 #![tactic(auto)]
 
 mod limits;
+mod noted;
 mod refusal;
 mod siblings;
 mod tables;
