@@ -44,7 +44,7 @@ impl fmt::Display for Said<'_, '_, Pair> {
     }
 }
 
-// Every number of a field goes through here, so that one width is printed.
+// A depth, a type id and a dictionary's number go through here, so that one width is printed.
 fn show_number<W: fmt::Write>(f: &mut fmt::Formatter<W>, n: i64) -> fmt::Result {
     fmt::Display::fmt(&n, f)
 }

@@ -2,8 +2,7 @@
 ghost use Rattle.std.specs.Prelude.{◌≡◌, [], ◌∷◌, ◌++◌, ◌<◌, ◌≤◌, length};
 
 /// The type ids noted so far, with places for those of as many children as a union may have.
-// Kept: places and a count in place of a vector, since the check rests on nothing beside the library, which has no vector that
-// never allocates.
+// Kept: places and a count in place of the kit's `ArrayVec`, so that the check rests on nothing beside the library.
 #[derive(Clone, Copy)]
 pub struct Noted {
     ids: [u8; 128],
