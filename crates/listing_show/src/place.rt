@@ -1,5 +1,5 @@
 //! Where the records of a sheet stand: their depths, worked out from the counts of children.
-ghost use Rattle.std.specs.Prelude.{◌≡◌, ◌<◌, length, Decides, IfSome, IfOk, vec_len};
+ghost use Rattle.std.specs.Prelude.{◌≡◌, ◌<◌, length, Decides, IsSomeAnd, IfSome, IfOk, vec_len};
 ghost use Rattle.types.specs.declared.UnionMode.{UnionMode};
 ghost use Rattle.types.specs.declared.DataType.TheVariants.{Union};
 
@@ -11,6 +11,23 @@ use types::{DataType, FieldRecord};
 pub struct Place {
     pub depth: u32,
     pub in_union: bool,
+}
+
+/// A record and where it stands: its depth, and the record that it is a child of.
+#[derive(Clone, Copy)]
+pub struct Placed<'s> {
+    pub field: &'s FieldRecord,
+    pub parent: Option<&'s FieldRecord>,
+    pub depth: u32,
+}
+
+impl Placed<'_> {
+    /// Whether the record is a child of a union.
+    pub fn in_union(&self) -> bool
+        ensures { Decides result (IsSomeAnd self.now.parent (λ p. (mode : UnionMode) × (p.now.data_type ≡ Union mode))) }
+    {
+        self.parent.is_some_and(|p| is_union(p.data_type))
+    }
 }
 
 // A record on the path to the last one: how many of its children are still to come, and whether they are a union's.

@@ -92,16 +92,16 @@ fn show_dictionary<W: fmt::Write>(f: &mut fmt::Formatter<W>, d: Dictionary) -> f
     f.write_str(")")
 }
 
-/// A record with where it stands.
+/// A record with its place, as a field's line says them.
 #[derive(Clone, Copy)]
-struct Placed<'s> {
+struct FieldLine<'s> {
     field: &'s FieldRecord,
     place: Place,
 }
 
 // Kept: piece by piece, as a dictionary; by one `write!` of several parts a listing of short records took half as long again.
 /// A field's line. The type id is left out where it is 0 and the field is no child of a union.
-impl fmt::Display for Said<'_, '_, Placed<'_>> {
+impl fmt::Display for Said<'_, '_, FieldLine<'_>> {
     fn fmt<W: fmt::Write>(&self, f: &mut fmt::Formatter<W>) -> fmt::Result {
         let field = self.part.field;
         let Place { depth, in_union } = self.part.place;
@@ -169,7 +169,7 @@ impl fmt::Display for Listing<'_, '_> {
             let (mine, others) = cut(rest, field.pairs);
             let line = Said {
                 sheet,
-                part: Placed {
+                part: FieldLine {
                     field,
                     place: *place,
                 },

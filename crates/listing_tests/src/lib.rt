@@ -4,13 +4,14 @@
 #[cfg(test)]
 mod tests {
     use listing::fill::Filler;
+    use listing_show::place::Placed;
     use listing_show::show::Listing;
     use listing_words::fault::LineFault;
     use sheet::Sheet;
     use std::alloc::Global;
     use std::process::Abort;
     use std::test::*;
-    use types::{DataType, FieldRecord, Pair, Text};
+    use types::{DataType, FieldRecord, Pair, Text, UnionMode};
 
     const NO_TEXT: Text = Text { start: 0, len: 0 };
 
@@ -125,6 +126,46 @@ mod tests {
         ];
         for (text, fault) in table {
             assert_eq!(rt; relisted(rt.alloc(), text).err(), Some(fault));
+        }
+        Ok(())
+    }
+
+    // What is told of the second of these records, as a child of the first.
+    fn told_in_union(records: &[FieldRecord; 2]) -> bool {
+        let placed = Placed {
+            field: &records[1],
+            parent: Some(&records[0]),
+            depth: 2,
+        };
+        placed.in_union()
+    }
+
+    #[test]
+    fn a_child_of_a_union_is_told_by_its_parent(rt: HostRuntime) -> Result<(), Fail> {
+        let union = FieldRecord {
+            data_type: DataType::Union(UnionMode::Dense),
+            ..NO_FIELD
+        };
+        let outermost = Placed {
+            field: &union,
+            parent: None,
+            depth: 1,
+        };
+        assert!(rt; !outermost.in_union());
+        let table = [
+            (DataType::Union(UnionMode::Sparse), true),
+            (DataType::Union(UnionMode::Dense), true),
+            (DataType::Map(true), false),
+            (DataType::Struct, false),
+            (DataType::Null, false),
+        ];
+        for (data_type, wanted) in table {
+            let parent = FieldRecord {
+                data_type,
+                children: 1,
+                ..NO_FIELD
+            };
+            assert_eq!(rt; told_in_union(&[parent, union]), wanted);
         }
         Ok(())
     }
